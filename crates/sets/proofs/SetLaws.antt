@@ -17,7 +17,9 @@ use lib.Pow.{shr-shr, pow-mono, pow-pos}
 use borrow.Author.Tests.{eq-eqb, ne-eqb}
 use Rattle.sets.specs.Lists.{bit, count, table, upto, all, members, lowest}
 use Rattle.sets.specs.Set.{has, size, subset, IsWith, IsWithout, IsJoin, IsMeet, IsLess, IsBelow, IsLowest}
-use Rattle.sets.proofs.ListLaws.{and-r, and-true, T→false, T-ext, eqb-same, count-iff, count-agree, count-out, members-lowest, lowest-is, all-get, all-make}
+use Rattle.sets.proofs.TestLaws.{and-r, and-true, T→false, T-ext, eqb-same, all-get, all-make}
+use Rattle.sets.proofs.ListLaws.{count-iff}
+use Rattle.sets.proofs.MemberLaws.{count-out, members-lowest, lowest-is}
 
 -- ---- digits
 

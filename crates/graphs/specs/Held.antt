@@ -1,0 +1,33 @@
+-- A graph as it is held in words, and its view as a graph.
+--
+--   view h     : the graph that the node h holds. Rows are read through the live set: bits of vertices that have left do not count
+--   Held h     : h's live set is the set of live vertices, its entries are at most 64, and its graph is a good one
+--   choiceOf c : what a choice says: the pair, or none
+--
+-- Assumes nothing.
+use mathlib.Core.Path.{_≡_}
+use mathlib.Core.Bool.{_&&_}
+use mathlib.Core.Option.{Option, none, some}
+use Prim.Native.Nat.{ℕ, zero, _≤_}
+use lib.ListN.{getD}
+use Rattle.sets.specs.Set.{has}
+use Rattle.graphs.specs.Graph.{Graph, live}
+use Rattle.graphs.specs.Good.{Good}
+use Rattle.graphs.specs.declared.Node.{Node}
+use Rattle.graphs.specs.declared.Choice.{Choice}
+use Rattle.graphs.specs.declared.Choice.the-variants.{Complete, Split}
+
+abbrev pub view : Node → Graph
+view h = record {
+  rep = λ i. getD (h .names) i zero;
+  adj = λ x y. has (h .live) x && (has (h .live) y && has (getD (h .rows) x zero) y);
+}
+
+pub record Held (h : Node) : Type 0 where
+  pub few : h .n ≤ 64
+  pub lives : (x : ℕ) → has (h .live) x ≡ live (h .n) (view h) x
+  pub good : Good (h .n) (view h)
+
+abbrev pub choiceOf : Choice → Option (ℕ × ℕ)
+choiceOf Complete = none
+choiceOf (Split u v) = some (u, v)

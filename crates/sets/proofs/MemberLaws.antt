@@ -1,0 +1,125 @@
+-- Laws of the members of a test below n: how many there are, which they are, the lowest of them. Assumes nothing.
+use mathlib.Core.Path.{_≡_, refl, sym, ap, ap₂, _∙_, subst}
+use mathlib.Core.Logic.{_⊎_, inl, inr, _≢_}
+use mathlib.Core.Bool.{Bool, true, false, not, _&&_}
+use mathlib.Core.List.{List, [], _∷_, _++_}
+use mathlib.Core.Option.{Option, none, some}
+use Prim.Native.Nat.{ℕ, zero, suc, _+_, _<_}
+use native.Mathlib.Nat.{not-suc-le-zero}
+use native.Mathlib.Decide.{ℕ-discrete}
+use native.Mathlib.Omega.{arith}
+use lib.Dec.{T, eqb}
+use lib.ListN.{length, length-append}
+use borrow.Author.Tests.{ne-eqb}
+use Rattle.sets.specs.Lists.{bit, In, count, table, upto, keep, members, first, lowest}
+use Rattle.sets.proofs.TestLaws.{bit-one, bit-zero, and-r, and-true, eqb-same}
+use Rattle.sets.proofs.ListLaws.{count-append, table-suc, In-append, In-append-l, In-append-r}
+
+pub count-upto : (p : ℕ → Bool) (n : ℕ) → count p (upto (suc n)) ≡ count p (upto n) + bit (p n)
+unfolding upto
+count-upto p n = omega (arith, ap (count p) (table-suc (λ i. i) n), count-append p (table (λ i. i) n) (n ∷ []))
+
+-- two tests that agree below n count the same there
+pub count-agree : (n : ℕ) (p q : ℕ → Bool) → ((j : ℕ) → j < n → p j ≡ q j) → count p (upto n) ≡ count q (upto n)
+unfolding upto
+count-agree zero p q h = refl
+count-agree (suc n) p q h =
+    omega (arith, count-upto p n, count-upto q n, ap bit (h n (omega arith)), count-agree n p q (λ j l. h j (omega arith)))
+
+-- a test that fails where another passes, at one number, and agrees with it elsewhere
+pub count-out : (n : ℕ) (p q : ℕ → Bool) (w : ℕ) → w < n → T (p w) → ¬ T (q w) → ((j : ℕ) → j ≢ w → q j ≡ p j)
+    → suc (count q (upto n)) ≡ count p (upto n)
+count-out zero p q w a t f h = absurd (not-suc-le-zero a)
+count-out (suc n) p q w a t f h = go (ℕ-discrete w n) (λ b. count-out n p q w b t f h)
+  where
+    go : Dec (w ≡ n) → (w < n → suc (count q (upto n)) ≡ count p (upto n)) → suc (count q (upto (suc n))) ≡ count p (upto (suc n))
+    go (yes e) r =
+        let one : bit (p n) ≡ 1 = ap (λ (x : ℕ). bit (p x)) (sym e) ∙ bit-one (p w) t in
+        let none : bit (q n) ≡ 0 = ap (λ (x : ℕ). bit (q x)) (sym e) ∙ bit-zero (q w) f in
+        omega (arith, count-upto p n, count-upto q n, count-agree n q p (λ j l. h j (λ z. absurd (omega arith))))
+    go (no d) r = omega (arith, count-upto p n, count-upto q n, ap bit (h n (λ z. d (sym z))), r (omega arith))
+
+pub members-count : (p : ℕ → Bool) (n : ℕ) → length (members p n) ≡ count p (upto n)
+unfolding upto
+members-count p zero = refl
+members-count p (suc n) = omega (arith, length-append (members p n) (keep (p n) n), kept (p n), members-count p n, count-upto p n)
+  where
+    kept : (b : Bool) → length (keep b n) ≡ bit b
+    kept true = refl
+    kept false = refl
+
+pub members-agree : (n : ℕ) (p q : ℕ → Bool) → ((j : ℕ) → j < n → p j ≡ q j) → members p n ≡ members q n
+members-agree zero p q h = refl
+members-agree (suc n) p q h =
+    ap₂ (λ (l : List ℕ) (b : Bool). l ++ keep b n) (members-agree n p q (λ j l. h j (omega arith))) (h n (omega arith))
+
+pub members-none : (p : ℕ → Bool) (n : ℕ) → ((j : ℕ) → j < n → ¬ T (p j)) → members p n ≡ []
+members-none p zero f = refl
+members-none p (suc n) f = ap (λ (l : List ℕ). l ++ keep (p n) n) (members-none p n (λ j b. f j (omega arith))) ∙ kept (p n) (f n (omega arith))
+  where
+    kept : (b : Bool) → ¬ T b → keep b n ≡ []
+    kept true q = absurd (q tt)
+    kept false q = refl
+
+-- the lowest member and the others
+pub members-lowest : (n : ℕ) (p q : ℕ → Bool) (w : ℕ) → w < n → T (p w) → ((j : ℕ) → j < w → ¬ T (p j)) → ¬ T (q w)
+    → ((j : ℕ) → j ≢ w → q j ≡ p j) → members p n ≡ w ∷ members q n
+members-lowest zero p q w a t f g h = absurd (not-suc-le-zero a)
+members-lowest (suc n) p q w a t f g h = go (ℕ-discrete w n) (λ b. members-lowest n p q w b t f g h)
+  where
+    one : (b : Bool) → T b → keep b n ≡ n ∷ []
+    one true t = refl
+    one false t = absurd t
+
+    none-at : (b : Bool) → ¬ T b → keep b n ≡ []
+    none-at true t = absurd (t tt)
+    none-at false t = refl
+
+    go : Dec (w ≡ n) → (w < n → members p n ≡ w ∷ members q n) → members p n ++ keep (p n) n ≡ w ∷ (members q n ++ keep (q n) n)
+    go (yes e) r =
+        let below : (j : ℕ) → j < n → ¬ T (p j) = λ j l. f j (omega arith) in
+        let l : members p n ++ keep (p n) n ≡ n ∷ [] =
+        ap (λ (l : List ℕ). l ++ keep (p n) n) (members-none p n below) ∙ one (p n) (subst (λ (z : ℕ). T (p z)) e t) in
+        let m : members q n ≡ [] = members-none q n (λ j l. λ t. below j l (subst T (h j (λ z. absurd (omega arith))) t)) in
+        let k : keep (q n) n ≡ [] = none-at (q n) (subst (λ (z : ℕ). ¬ T (q z)) e g) in
+        l ∙ ap (λ (x : ℕ). x ∷ []) (sym e) ∙ ap (λ (l : List ℕ). w ∷ l) (sym (ap₂ (λ (x y : List ℕ). x ++ y) m k))
+    go (no d) r =
+        ap (λ (l : List ℕ). l ++ keep (p n) n) (r (omega arith)) ∙ ap (λ (b : Bool). w ∷ (members q n ++ keep b n)) (sym (h n (λ z. d (sym z))))
+
+pub lowest-is : (p : ℕ → Bool) (n w : ℕ) → w < n → T (p w) → ((j : ℕ) → j < w → ¬ T (p j)) → lowest p n ≡ some w
+lowest-is p n w a t f =
+    ap first (members-lowest n p (λ j. p j && not (eqb w j)) w a t f out same)
+  where
+    out : ¬ T (p w && not (eqb w w))
+    out t = subst (λ (b : Bool). T (not b)) (eqb-same w) (and-r (p w) (not (eqb w w)) t)
+
+    same : (j : ℕ) → j ≢ w → (p j && not (eqb w j)) ≡ p j
+    same j d = ap (λ (b : Bool). p j && not b) (ne-eqb w j (λ e. d (sym e))) ∙ and-true (p j)
+
+pub lowest-none : (p : ℕ → Bool) (n : ℕ) → ((j : ℕ) → j < n → ¬ T (p j)) → lowest p n ≡ none
+lowest-none p n f = ap first (members-none p n f)
+
+pub In-members : (p : ℕ → Bool) (n x : ℕ) → In x (members p n) → (x < n) × T (p x)
+In-members p zero x h = absurd h
+In-members p (suc n) x h = go (In-append x (members p n) (keep (p n) n) h) (In-members p n x)
+  where
+    kept : (b : Bool) → In x (keep b n) → (x ≡ n) × T b
+    kept true (inl e) = (e, tt)
+    kept true (inr f) = absurd f
+    kept false f = absurd f
+
+    go : In x (members p n) ⊎ In x (keep (p n) n) → (In x (members p n) → (x < n) × T (p x)) → (x < suc n) × T (p x)
+    go (inl i) r = let t = r i in (omega arith, t .1)
+    go (inr i) r = let t = kept (p n) i in (omega arith, rw (t .0) (t .1))
+
+pub members-In : (p : ℕ → Bool) (n x : ℕ) → x < n → T (p x) → In x (members p n)
+members-In p zero x b t = absurd (not-suc-le-zero b)
+members-In p (suc n) x b t = go (ℕ-discrete x n) (members-In p n x)
+  where
+    kept : (b : Bool) → T b → In n (keep b n)
+    kept true t = inl refl
+    kept false t = absurd t
+
+    go : Dec (x ≡ n) → (x < n → T (p x) → In x (members p n)) → In x (members p n ++ keep (p n) n)
+    go (yes e) r = In-append-r x (members p n) (keep (p n) n) (subst (λ z. In z (keep (p n) n)) (sym e) (kept (p n) (rw e at t)))
+    go (no a) r = In-append-l x (members p n) (keep (p n) n) (r (omega arith) t)
