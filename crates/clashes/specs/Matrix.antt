@@ -8,6 +8,7 @@
 --   HasOneSided rows i : row i has a bit j, and row j lacks bit i
 --   LowestRow P n i    : i is the lowest row below n of which P holds
 --   NoRow P n          : P holds of no row below n
+--   FirstRow P n i     : i is the lowest row below n of which P holds, or n where there is none
 --   Judged rows a      : a is the answer for these rows
 --   numberOf a, rowOf a: document 01's number of an answer, 0 where it is accepted, and the row that it names, 0 where it names none
 --   judge rows         : the answer, computed
@@ -21,8 +22,8 @@ use lib.Dec.{T, leb, ltb}
 use lib.ListN.{length, getD}
 use Rattle.sets.specs.Lists.{any, lowest}
 use Rattle.sets.specs.Set.{has}
-use Rattle.clashes.specs.declared.Validity.{Validity}
-use Rattle.clashes.specs.declared.Validity.the-variants.{Valid as ok, Many, Stray, Itself, OneSided}
+use Rattle.clashes.specs.declared.Verdict.{Verdict}
+use Rattle.clashes.specs.declared.Verdict.the-variants.{Valid as ok, Many, Stray, Itself, OneSided}
 
 abbrev pub matrix : List ℕ → ℕ → ℕ → Bool
 matrix rows x y = has (getD rows x zero) y
@@ -48,6 +49,11 @@ pub record LowestRow (P : ℕ → Type 0) (n i : ℕ) : Type 0 where
 abbrev pub NoRow : (ℕ → Type 0) → ℕ → Type 0
 NoRow P n = (i : ℕ) → i < n → ¬ P i
 
+pub record FirstRow (P : ℕ → Type 0) (n i : ℕ) : Type 0 where
+  pub most : i ≤ n
+  pub here : i < n → P i
+  pub before : (j : ℕ) → j < i → ¬ P j
+
 -- at most 64 rows, and no stray bit
 pub record Inside (rows : List ℕ) : Type 0 where
   pub few : length rows ≤ 64
@@ -63,21 +69,21 @@ pub record Sound (rows : List ℕ) : Type 0 where
   pub apart : Apart rows
   pub no-one-sided : NoRow (HasOneSided rows) (length rows)
 
-abbrev pub Judged : List ℕ → Validity → Type 0
+abbrev pub Judged : List ℕ → Verdict → Type 0
 Judged rows ok = Sound rows
 Judged rows Many = 64 < length rows
 Judged rows (Stray i) = (length rows ≤ 64) × LowestRow (HasStray rows) (length rows) i
 Judged rows (Itself i) = Inside rows × LowestRow (HasItself rows) (length rows) i
 Judged rows (OneSided i) = Apart rows × LowestRow (HasOneSided rows) (length rows) i
 
-abbrev pub numberOf : Validity → ℕ
+abbrev pub numberOf : Verdict → ℕ
 numberOf ok = 0
 numberOf Many = 1
 numberOf (Stray i) = 2
 numberOf (Itself i) = 3
 numberOf (OneSided i) = 4
 
-abbrev pub rowOf : Validity → ℕ
+abbrev pub rowOf : Verdict → ℕ
 rowOf ok = 0
 rowOf Many = 0
 rowOf (Stray i) = i
@@ -96,11 +102,11 @@ abbrev pub oneSidedAt : List ℕ → ℕ → Bool
 oneSidedAt rows i = any (length rows) (λ j. matrix rows i j && not (matrix rows j i))
 
 -- the refusal at the lowest row, or what comes next
-abbrev pub refuse : Option ℕ → (ℕ → Validity) → Validity → Validity
+abbrev pub refuse : Option ℕ → (ℕ → Verdict) → Verdict → Verdict
 refuse none f next = next
 refuse (some i) f next = f i
 
-abbrev pub judge : List ℕ → Validity
+abbrev pub judge : List ℕ → Verdict
 judge rows =
     cond (ltb 64 (length rows)) Many
     (refuse (lowest (strayAt rows) (length rows)) Stray

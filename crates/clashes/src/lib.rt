@@ -1,11 +1,105 @@
 // The lent matrix of a clash list, and whether it is one.
-ghost use Rattle.clashes.specs.Matrix.{Judged};
+use sets::below;
+use sets::has;
+use sets::less;
+ghost use mathlib.Core.Path.{_≡_};
+ghost use mathlib.Core.Bool.{true, false};
+ghost use Prim.Native.Nat.{_<_, _≤_};
+ghost use lib.ListN.{length};
+ghost use Rattle.clashes.specs.Matrix.{HasStray, HasItself, HasOneSided, FirstRow, Judged};
 
 // The answer for lent rows: document 01's numbers 1 to 4, with the lowest row at fault.
-pub enum Validity {
+pub enum Verdict {
     Valid,
     Many,
     Stray(usize),
     Itself(usize),
     OneSided(usize),
+}
+
+// The lowest row with a bit at n or above, or n.
+fn first_stray(rows: &[u64]) -> usize
+    requires { ⌜ length (now rows) ≤ 64 ⌝ }
+    ensures { λ r. ⌜ FirstRow (HasStray (now (rows .entry))) (length (now (rows .entry))) r ⌝ }
+{
+    let all = below(rows.len());
+    let mut i: usize = 0;
+    while i < rows.len() {
+        if less(rows[i], all) != 0 {
+            return i;
+        }
+        i += 1;
+    }
+    i
+}
+
+// The lowest row with its own bit, or n.
+fn first_itself(rows: &[u64]) -> usize
+    requires { ⌜ length (now rows) ≤ 64 ⌝ }
+    ensures { λ r. ⌜ FirstRow (HasItself (now (rows .entry))) (length (now (rows .entry))) r ⌝ }
+{
+    let mut i: usize = 0;
+    while i < rows.len() {
+        if has(rows[i], i) {
+            return i;
+        }
+        i += 1;
+    }
+    i
+}
+
+// Has row i a bit whose row lacks bit i?
+fn is_one_sided(rows: &[u64], i: usize) -> bool
+    requires { ⌜ (length (now rows) ≤ 64) × (i < length (now rows)) ⌝ }
+    ensures { λ r. ⌜ (r ≡ true → HasOneSided (now (rows .entry)) i) × (r ≡ false → HasOneSided (now (rows .entry)) i → ⊥) ⌝ }
+{
+    let row = rows[i];
+    let mut j: usize = 0;
+    while j < rows.len() {
+        if has(row, j) {
+            if !has(rows[j], i) {
+                return true;
+            }
+        }
+        j += 1;
+    }
+    false
+}
+
+// The lowest row with a bit that is not returned, or n.
+fn first_one_sided(rows: &[u64]) -> usize
+    requires { ⌜ length (now rows) ≤ 64 ⌝ }
+    ensures { λ r. ⌜ FirstRow (HasOneSided (now (rows .entry))) (length (now (rows .entry))) r ⌝ }
+{
+    let mut i: usize = 0;
+    while i < rows.len() {
+        if is_one_sided(rows, i) {
+            return i;
+        }
+        i += 1;
+    }
+    i
+}
+
+// Is this the matrix of a clash list? If not, by which number, and at which row?
+pub fn validity(rows: &[u64]) -> Verdict
+    ensures { λ r. ⌜ Judged (now (rows .entry)) r ⌝ }
+{
+    let n = rows.len();
+    if 64 < n {
+        return Verdict::Many;
+    }
+    let stray = first_stray(rows);
+    if stray < n {
+        return Verdict::Stray(stray);
+    }
+    let itself = first_itself(rows);
+    if itself < n {
+        return Verdict::Itself(itself);
+    }
+    let lone = first_one_sided(rows);
+    if lone < n {
+        return Verdict::OneSided(lone);
+    }
+    Verdict::Valid
 }

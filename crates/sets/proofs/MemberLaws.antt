@@ -12,7 +12,7 @@ use lib.Dec.{T, eqb}
 use lib.ListN.{length, length-append}
 use borrow.Author.Tests.{ne-eqb}
 use Rattle.sets.specs.Lists.{bit, In, count, table, upto, keep, members, first, lowest}
-use Rattle.sets.proofs.TestLaws.{bit-one, bit-zero, and-r, and-true, eqb-same}
+use Rattle.sets.proofs.TestLaws.{bit-one, bit-zero, T?, and-r, and-true, eqb-same}
 use Rattle.sets.proofs.ListLaws.{count-append, table-suc, In-append, In-append-l, In-append-r}
 
 pub count-upto : (p : ℕ → Bool) (n : ℕ) → count p (upto (suc n)) ≡ count p (upto n) + bit (p n)
@@ -98,6 +98,38 @@ lowest-is p n w a t f =
 
 pub lowest-none : (p : ℕ → Bool) (n : ℕ) → ((j : ℕ) → j < n → ¬ T (p j)) → lowest p n ≡ none
 lowest-none p n f = ap first (members-none p n f)
+
+-- what the lowest is: it passes and none below it does, or none passes
+pub record IsLeast (p : ℕ → Bool) (n w : ℕ) : Type 0 where
+  pub below : w < n
+  pub passes : T (p w)
+  pub least : (j : ℕ) → j < w → ¬ T (p j)
+
+pub data Lowest (p : ℕ → Bool) (n : ℕ) : Option ℕ → Type 0 where
+  found : (w : ℕ) → IsLeast p n w → Lowest p n (some w)
+  nowhere : ((j : ℕ) → j < n → ¬ T (p j)) → Lowest p n none
+
+pub lowest-cases : (p : ℕ → Bool) (n : ℕ) → Lowest p n (lowest p n)
+lowest-cases p zero = nowhere (λ j b. absurd (not-suc-le-zero b))
+lowest-cases p (suc n) = go (lowest p n) (lowest-cases p n)
+  where
+    at-n : ((j : ℕ) → j < n → ¬ T (p j)) → Dec (T (p n)) → Lowest p (suc n) (lowest p (suc n))
+    at-n f (yes t) =
+        subst (Lowest p (suc n)) (sym (lowest-is p (suc n) n (omega arith) t f)) (found n (record { below = omega arith; passes = t; least = f }))
+    at-n f (no q) = subst (Lowest p (suc n)) (sym (lowest-none p (suc n) all-fail)) (nowhere all-fail)
+      where
+        all-fail : (j : ℕ) → j < suc n → ¬ T (p j)
+        all-fail j b = by (ℕ-discrete j n)
+          where
+            by : Dec (j ≡ n) → ¬ T (p j)
+            by (yes e) t = q (subst (λ (x : ℕ). T (p x)) e t)
+            by (no d) t = f j (omega arith) t
+
+    go : (o : Option ℕ) → Lowest p n o → Lowest p (suc n) (lowest p (suc n))
+    go o (found w l) =
+        subst (Lowest p (suc n)) (sym (lowest-is p (suc n) w (omega (arith, l .below)) (l .passes) (l .least)))
+        (found w (record { below = omega (arith, l .below); passes = l .passes; least = l .least }))
+    go o (nowhere f) = at-n f (T? (p n))
 
 pub In-members : (p : ℕ → Bool) (n x : ℕ) → In x (members p n) → (x < n) × T (p x)
 In-members p zero x h = absurd h

@@ -136,6 +136,10 @@ below-is (suc n) (suc j) = has-suc (2 ^ suc n - 1) j ∙ ap (λ (m : ℕ). has m
 pub has-beyond : (n s i : ℕ) → s < 2 ^ n → n ≤ i → has s i ≡ false
 has-beyond n s i a b = ap odd (div-eq-of-lt (lt-of-lt-of-le a (pow-mono b)))
 
+-- the members from n on, counted from n
+pub has-shifted : (n s i : ℕ) → has (s / 2 ^ n) i ≡ has s (n + i)
+has-shifted n s i = ap odd (shr-shr s n i)
+
 -- a set of two parts, as a row of several words: w has the members below k, r those from k on
 pub has-cat : (k r w i : ℕ) → w < 2 ^ k → has (r * 2 ^ k + w) i ≡ cond (ltb i k) (has w i) (has r (i - k))
 has-cat zero r w i a =
@@ -182,6 +186,15 @@ same-members =
 -- a set with no member is 0
 pub no-members : (s : ℕ) → ((i : ℕ) → ¬ T (has s i)) → s ≡ 0
 no-members s h = same-members s 0 (λ i. T→false (has s i) (h i) ∙ sym (has-none i))
+
+-- a set that is not 0 has a member
+pub some-member : (s : ℕ) → s ≢ 0 → (i : ℕ) × T (has s i)
+some-member =
+    bin-ind (λ (s : ℕ). s ≢ 0 → (i : ℕ) × T (has s i)) (λ q. absurd (q refl)) (λ s ih q. go s q (s % 2) refl ih)
+  where
+    go : (s : ℕ) → s ≢ 0 → (d : ℕ) → s % 2 ≡ d → (s / 2 ≢ 0 → (i : ℕ) × T (has (s / 2) i)) → (i : ℕ) × T (has s i)
+    go s q zero e r = let m = r (λ z. q (omega arith)) in (suc (m .0), subst T (sym (has-suc s (m .0))) (m .1))
+    go s q (suc d) e r = (0, subst T (sym (has-zero s ∙ eq-eqb (s % 2) 1 (omega arith))) tt)
 
 -- ---- sizes
 
