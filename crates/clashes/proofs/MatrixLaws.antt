@@ -2,16 +2,22 @@
 -- nothing.
 use mathlib.Core.Path.{_≡_, refl, sym, ap, _∙_, subst}
 use mathlib.Core.Logic.{_⊎_, inl, inr, _≢_}
-use mathlib.Core.Bool.{Bool, true, false, not, _&&_}
+use mathlib.Core.Bool.{Bool, true, false, not, _&&_, cond}
 use mathlib.Core.List.{List}
-use Prim.Native.Nat.{ℕ, _≤_, _<_}
+use mathlib.Core.Option.{Option, none, some}
+use Prim.Native.Nat.{ℕ, _+_, _*_, _/_, _^_, _≤_, _<_}
+use native.Mathlib.Nat.{mod-lt, zero-mul}
 use native.Mathlib.Decide.{decLt}
 use native.Mathlib.Omega.{arith}
-use lib.Dec.{T, ltb, ltb→lt, lt→ltb, T-not, not-T}
+use lib.Dec.{T, ltb→lt, lt→ltb, leb→le, le→leb, T-not, not-T}
 use lib.ListN.{length, getD}
+use lib.Pow.{pow-pos, split}
+use borrow.Author.Tests.{lt-ltb, le-ltb}
+use Rattle.sets.specs.Lists.{lowest}
 use Rattle.sets.specs.Set.{has, IsBelow, IsLess}
-use Rattle.sets.proofs.TestLaws.{and-l, and-r, and-t, T-ext}
-use Rattle.sets.proofs.SetLaws.{has-none, some-member}
+use Rattle.sets.proofs.TestLaws.{and-l, and-r, and-t, any-get, any-make}
+use Rattle.sets.proofs.MemberLaws.{lowest-is, lowest-none}
+use Rattle.sets.proofs.SetLaws.{has-none, has-beyond, has-shifted, some-member}
 use Rattle.clashes.specs.Matrix.{matrix, Valid, HasStray, HasItself, HasOneSided, LowestRow, NoRow, FirstRow, Inside, Apart, Sound, Judged, strayAt, itselfAt, oneSidedAt, refuse, judge}
 use Rattle.clashes.specs.declared.Verdict.{Verdict}
 use Rattle.clashes.specs.declared.Verdict.the-variants.{Valid as ok, Many, Stray, Itself, OneSided}
@@ -47,44 +53,114 @@ module _ (P : ℕ → Type 0) (n i : ℕ) where
   pub first-none : FirstRow P n i → n ≤ i → NoRow P n
   first-none f b j l = f .before j (omega arith)
 
-  -- no row and a lowest row exclude each other
-  none-lowest : NoRow P n → LowestRow P n i → ⊥
-  none-lowest f l = f i (l .below) (l .here)
+-- ---- the tests say what they should
 
--- the lowest row is one row
-lowest-one : (P : ℕ → Type 0) (n i j : ℕ) → LowestRow P n i → LowestRow P n j → i ≡ j
-lowest-one P n i j a b = go (decLt i j) (decLt j i)
-  where
-    go : Dec (i < j) → Dec (j < i) → i ≡ j
-    go (yes l) d = absurd (b .before i l (a .here))
-    go (no l) (yes m) = absurd (a .before j m (b .here))
-    go (no l) (no m) = omega arith
+module _ (rows : List ℕ) (i : ℕ) where
+  stray-test : T (strayAt rows i) → HasStray rows i
+  stray-test t =
+      let m = some-member (getD rows i 0 / 2 ^ length rows) high in
+      (length rows + m .0, omega arith, subst T (has-shifted (length rows) (getD rows i 0) (m .0)) (m .1))
+    where
+      high : getD rows i 0 / 2 ^ length rows ≢ 0
+      high e =
+          let h = leb→le (2 ^ length rows) (getD rows i 0) t in
+          let z : ⊥ = not-lt (omega (arith, split (getD rows i 0) (length rows), mod-lt (getD rows i 0) (pow-pos (length rows)), zeroed e)) in
+          z
+        where
+          zeroed : getD rows i 0 / 2 ^ length rows ≡ 0 → getD rows i 0 / 2 ^ length rows * 2 ^ length rows ≡ 0
+          zeroed e = ap (λ (x : ℕ). x * 2 ^ length rows) e ∙ zero-mul (2 ^ length rows)
 
--- ---- the promise leaves one answer
+          not-lt : getD rows i 0 < 2 ^ length rows → ⊥
+          not-lt b = omega (arith, leb→le (2 ^ length rows) (getD rows i 0) t)
 
-pub judged-unique : (rows : List ℕ) (a b : Verdict) → Judged rows a → Judged rows b → a ≡ b
-judged-unique rows ok ok p q = refl
-judged-unique rows ok Many p q = absurd (omega (arith, p .apart .inside .few))
-judged-unique rows ok (Stray j) p q = absurd (none-lowest _ _ j (p .apart .inside .no-stray) (q .1))
-judged-unique rows ok (Itself j) p q = absurd (none-lowest _ _ j (p .apart .no-itself) (q .1))
-judged-unique rows ok (OneSided j) p q = absurd (none-lowest _ _ j (p .no-one-sided) (q .1))
-judged-unique rows Many ok p q = absurd (omega (arith, q .apart .inside .few))
-judged-unique rows Many Many p q = refl
-judged-unique rows Many (Stray j) p q = absurd (omega (arith, q .0))
-judged-unique rows Many (Itself j) p q = absurd (omega (arith, q .0 .few))
-judged-unique rows Many (OneSided j) p q = absurd (omega (arith, q .0 .inside .few))
-judged-unique rows (Stray i) ok p q = absurd (none-lowest _ _ i (q .apart .inside .no-stray) (p .1))
-judged-unique rows (Stray i) Many p q = absurd (omega (arith, p .0))
-judged-unique rows (Stray i) (Stray j) p q = ap Stray (lowest-one _ _ i j (p .1) (q .1))
-judged-unique rows (Stray i) (Itself j) p q = absurd (none-lowest _ _ i (q .0 .no-stray) (p .1))
-judged-unique rows (Stray i) (OneSided j) p q = absurd (none-lowest _ _ i (q .0 .inside .no-stray) (p .1))
-judged-unique rows (Itself i) ok p q = absurd (none-lowest _ _ i (q .apart .no-itself) (p .1))
-judged-unique rows (Itself i) Many p q = absurd (omega (arith, p .0 .few))
-judged-unique rows (Itself i) (Stray j) p q = absurd (none-lowest _ _ j (p .0 .no-stray) (q .1))
-judged-unique rows (Itself i) (Itself j) p q = ap Itself (lowest-one _ _ i j (p .1) (q .1))
-judged-unique rows (Itself i) (OneSided j) p q = absurd (none-lowest _ _ i (q .0 .no-itself) (p .1))
-judged-unique rows (OneSided i) ok p q = absurd (none-lowest _ _ i (q .no-one-sided) (p .1))
-judged-unique rows (OneSided i) Many p q = absurd (omega (arith, p .0 .inside .few))
-judged-unique rows (OneSided i) (Stray j) p q = absurd (none-lowest _ _ j (p .0 .inside .no-stray) (q .1))
-judged-unique rows (OneSided i) (Itself j) p q = absurd (none-lowest _ _ j (p .0 .no-itself) (q .1))
-judged-unique rows (OneSided i) (OneSided j) p q = ap OneSided (lowest-one _ _ i j (p .1) (q .1))
+  test-stray : HasStray rows i → T (strayAt rows i)
+  test-stray (j, b, t) = go (decLt (getD rows i 0) (2 ^ length rows))
+    where
+      go : Dec (getD rows i 0 < 2 ^ length rows) → T (strayAt rows i)
+      go (yes l) = absurd (subst T (has-beyond (length rows) (getD rows i 0) j l b) t)
+      go (no q) = le→leb (2 ^ length rows) (getD rows i 0) (omega arith)
+
+  lone : ℕ → Bool
+  lone j = matrix rows i j && not (matrix rows j i)
+
+  one-sided-test : T (oneSidedAt rows i) → HasOneSided rows i
+  unfolding lone
+  one-sided-test t =
+      let m = any-get (length rows) lone t in (
+        m .0,
+        m .1,
+        and-l (matrix rows i (m .0)) (not (matrix rows (m .0) i)) (m .2),
+        T-not (matrix rows (m .0) i) (and-r (matrix rows i (m .0)) (not (matrix rows (m .0) i)) (m .2)),
+      )
+
+  test-one-sided : HasOneSided rows i → T (oneSidedAt rows i)
+  unfolding lone
+  test-one-sided (j, b, t, f) = any-make (length rows) lone j b (and-t (matrix rows i j) (not (matrix rows j i)) t (not-T (matrix rows j i) f))
+
+module _ (p : ℕ → Bool) (P : ℕ → Type 0) (test : (i : ℕ) → P i → T (p i)) (says : (i : ℕ) → T (p i) → P i) (n : ℕ) where
+  at-lowest : (i : ℕ) → LowestRow P n i → lowest p n ≡ some i
+  at-lowest i l = lowest-is p n i (l .below) (test i (l .here)) (λ j b t. l .before j b (says j t))
+
+  at-none : NoRow P n → lowest p n ≡ none
+  at-none f = lowest-none p n (λ j b t. f j b (says j t))
+
+-- ---- the promise leaves one answer: the one that `judge` computes
+
+module _ (rows : List ℕ) where
+  stray-at : (i : ℕ) → LowestRow (HasStray rows) (length rows) i → lowest (strayAt rows) (length rows) ≡ some i
+  stray-at = at-lowest (strayAt rows) (HasStray rows) (test-stray rows) (stray-test rows) (length rows)
+
+  no-stray-at : NoRow (HasStray rows) (length rows) → lowest (strayAt rows) (length rows) ≡ none
+  no-stray-at = at-none (strayAt rows) (HasStray rows) (test-stray rows) (stray-test rows) (length rows)
+
+  itself-at : (i : ℕ) → LowestRow (HasItself rows) (length rows) i → lowest (itselfAt rows) (length rows) ≡ some i
+  itself-at = at-lowest (itselfAt rows) (HasItself rows) (λ i t. t) (λ i t. t) (length rows)
+
+  no-itself-at : NoRow (HasItself rows) (length rows) → lowest (itselfAt rows) (length rows) ≡ none
+  no-itself-at = at-none (itselfAt rows) (HasItself rows) (λ i t. t) (λ i t. t) (length rows)
+
+  one-sided-at : (i : ℕ) → LowestRow (HasOneSided rows) (length rows) i → lowest (oneSidedAt rows) (length rows) ≡ some i
+  one-sided-at = at-lowest (oneSidedAt rows) (HasOneSided rows) (test-one-sided rows) (one-sided-test rows) (length rows)
+
+  no-one-sided-at : NoRow (HasOneSided rows) (length rows) → lowest (oneSidedAt rows) (length rows) ≡ none
+  no-one-sided-at = at-none (oneSidedAt rows) (HasOneSided rows) (test-one-sided rows) (one-sided-test rows) (length rows)
+
+  -- the three searches, one behind the other
+  after-many : Option ℕ → Option ℕ → Option ℕ → Verdict
+  after-many s t o = refuse s Stray (refuse t Itself (refuse o OneSided ok))
+
+  judge-few : length rows ≤ 64 → (s : Option ℕ) → lowest (strayAt rows) (length rows) ≡ s → judge rows ≡ after-many s (lowest (itselfAt rows) (length rows)) (lowest (oneSidedAt rows) (length rows))
+  unfolding after-many
+  judge-few h s e =
+      ap (λ (b : Bool). cond b Many (after-many (lowest (strayAt rows) (length rows)) (lowest (itselfAt rows) (length rows)) (lowest (oneSidedAt rows) (length rows)))) (le-ltb 64 (length rows) h)
+      ∙ ap (λ (x : Option ℕ). after-many x (lowest (itselfAt rows) (length rows)) (lowest (oneSidedAt rows) (length rows))) e
+
+  judge-inside : Inside rows → (t : Option ℕ) → lowest (itselfAt rows) (length rows) ≡ t → judge rows ≡ after-many none t (lowest (oneSidedAt rows) (length rows))
+  judge-inside h t e =
+      judge-few (h .few) none (no-stray-at (h .no-stray)) ∙ ap (λ (x : Option ℕ). after-many none x (lowest (oneSidedAt rows) (length rows))) e
+
+  judge-apart : Apart rows → (o : Option ℕ) → lowest (oneSidedAt rows) (length rows) ≡ o → judge rows ≡ after-many none none o
+  judge-apart h o e = judge-inside (h .inside) none (no-itself-at (h .no-itself)) ∙ ap (after-many none none) e
+
+  pub judged-is : (a : Verdict) → Judged rows a → judge rows ≡ a
+  unfolding after-many
+  judged-is ok p = judge-apart (p .apart) none (no-one-sided-at (p .no-one-sided))
+  judged-is Many p = ap (λ (b : Bool). cond b Many (after-many (lowest (strayAt rows) (length rows)) (lowest (itselfAt rows) (length rows)) (lowest (oneSidedAt rows) (length rows)))) (lt-ltb 64 (length rows) p)
+  judged-is (Stray i) p = judge-few (p .0) (some i) (stray-at i (p .1))
+  judged-is (Itself i) p = judge-inside (p .0) (some i) (itself-at i (p .1))
+  judged-is (OneSided i) p = judge-apart (p .0) (some i) (one-sided-at i (p .1))
+
+  pub judged-unique : (a b : Verdict) → Judged rows a → Judged rows b → a ≡ b
+  judged-unique a b p q = sym (judged-is a p) ∙ judged-is b q
+
+  -- ---- a sound matrix is a valid list, and the other way round
+
+  pub sound-valid : Sound rows → Valid (length rows) (matrix rows)
+  sound-valid s = record {
+    no-self = s .apart .no-itself;
+    both-ways = λ x y a b t. by-T (matrix rows y x) (λ f. s .no-one-sided x a (y, b, t, f));
+  }
+    where
+      by-T : (b : Bool) → ((T b → ⊥) → ⊥) → T b
+      by-T true f = tt
+      by-T false f = f (λ t. t)

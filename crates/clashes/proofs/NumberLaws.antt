@@ -6,7 +6,7 @@ use mathlib.Core.List.{List, [], _∷_, _++_, map}
 use Prim.Native.Nat.{ℕ, zero, suc, _≤_, _<_, zero-le, suc-le-suc, max}
 use native.Mathlib.Decide.{ℕ-discrete}
 use native.Mathlib.Omega.{arith}
-use lib.ListN.{length, length-append}
+use lib.ListN.{length, getD, length-append}
 use Rattle.sets.specs.Lists.{In, NoDup}
 use Rattle.sets.proofs.ListLaws.{In-append, In-append-l, In-append-r}
 use Rattle.clashes.specs.Labels.{when, member, add, place, distinct, number}
@@ -75,6 +75,16 @@ module _ {A : Type 0} (same : Discrete A) where
       go (no a) (no b) (inl i) j e h = absurd (a i)
       go (no a) (no b) (inr i) (inl j) e h = absurd (b j)
       go (no a) (no b) (inr i) (inr j) e h = h i j (omega arith)
+
+  -- at its place stands x
+  pub place-at : (x d : A) (s : List A) → In x s → getD s (place same x s) d ≡ x
+  place-at x d [] i = absurd i
+  place-at x d (y ∷ s) i = go (same x y) i (place-at x d s)
+    where
+      go : (q : Dec (x ≡ y)) → In x (y ∷ s) → (In x s → getD s (place same x s) d ≡ x) → getD (y ∷ s) (when q zero (suc (place same x s))) d ≡ x
+      go (yes e) i h = sym e
+      go (no a) (inl e) h = absurd (a e)
+      go (no a) (inr i) h = h i
 
   -- ---- growing
 

@@ -5,6 +5,7 @@
 --   Canon m c            : c is numbered by first use, where m numbers have been used before
 --   groups m c           : how many numbers c uses, with the m before it
 --   divisions n          : every division of n entries
+--   alone n              : every entry alone, n groups
 --   Division n c         : c is a division of n entries
 --   division n f         : the groups of equal labels of a labelling f, numbered by first use
 --   SameGroups n c f     : two entries are in one group of c just where f gives them one label
@@ -50,6 +51,9 @@ divs (suc n) m = heads (λ k. divs n (max m (suc k))) (suc m)
 
 abbrev pub divisions : ℕ → List (List ℕ)
 divisions n = divs n zero
+
+abbrev pub alone : ℕ → List ℕ
+alone n = table (λ i. i) n
 
 abbrev pub division : {A : Type 0} → Discrete A → ℕ → (ℕ → A) → List ℕ
 division same n f = number same [] (table f n)

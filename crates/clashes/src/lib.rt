@@ -90,14 +90,14 @@ pub fn validity(rows: &[u64]) -> Verdict
         return Verdict::Many;
     }
     let stray = first_stray(rows);
+    let itself = first_itself(rows);
+    let lone = first_one_sided(rows);
     if stray < n {
         return Verdict::Stray(stray);
     }
-    let itself = first_itself(rows);
     if itself < n {
         return Verdict::Itself(itself);
     }
-    let lone = first_one_sided(rows);
     if lone < n {
         return Verdict::OneSided(lone);
     }

@@ -5,7 +5,8 @@ use mathlib.Core.Bool.{Bool, true, false, cond}
 use mathlib.Core.List.{List, [], _∷_, _++_, map}
 use mathlib.Core.Option.{Option, none, some, Option·none-ne-some, Option·some-ne-none, Option·some-injective}
 use Prim.Native.Nat.{ℕ, zero, suc, _+_, _≤_, _<_, zero-le, suc-le-suc}
-use native.Mathlib.Nat.{le-of-suc-le-suc, not-suc-le-zero}
+use native.Mathlib.Nat.{le-of-suc-le-suc, not-suc-le-zero, le-refl, le-trans}
+use native.Mathlib.Decide.{decLe}
 use native.Mathlib.Omega.{arith}
 use lib.Dec.{T, leb}
 use lib.ListN.{length, getD}
@@ -118,15 +119,43 @@ module _ {A B : Type 0} where
   count-map p f [] = refl
   count-map p f (x ∷ l) = ap (λ k. bit (p (f x)) + k) (count-map p f l)
 
-pub In-map : {A : Type 0} (f : ℕ → A) (l : List ℕ) (v : ℕ) → In v l → In (f v) (map f l)
+-- ---- no element twice, in joined and mapped lists
+
+pub noDup-append : {A : Type 0} (k l : List A) → NoDup k → NoDup l → ((x : A) → In x k → In x l → ⊥) → NoDup (k ++ l)
+noDup-append [] l a b f = b
+noDup-append (x ∷ k) l a b f = (
+  λ h. elim (In-append x k l h) [ inl i ↦ a .0 i | inr i ↦ f x (inl refl) i ],
+  noDup-append k l (a .1) b (λ z i j. f z (inr i) j),
+)
+
+pub In-map : {A B : Type 0} (f : A → B) (l : List A) (v : A) → In v l → In (f v) (map f l)
 In-map f [] v h = absurd h
 In-map f (y ∷ l) v (inl e) = inl (ap f e)
 In-map f (y ∷ l) v (inr h) = inr (In-map f l v h)
 
-pub map-In : {A : Type 0} (f : ℕ → A) (l : List ℕ) (x : A) → In x (map f l) → (v : ℕ) × In v l × (x ≡ f v)
+pub map-In : {A B : Type 0} (f : A → B) (l : List A) (x : B) → In x (map f l) → (v : A) × In v l × (x ≡ f v)
 map-In f [] x h = absurd h
 map-In f (y ∷ l) x (inl e) = (y, inl refl, e)
 map-In f (y ∷ l) x (inr h) = let t = map-In f l x h in (t .0, inr (t .1), t .2)
+
+pub noDup-map : {A B : Type 0} (f : A → B) → ((x y : A) → f x ≡ f y → x ≡ y) → (l : List A) → NoDup l → NoDup (map f l)
+noDup-map f inj [] d = tt
+noDup-map f inj (x ∷ l) d = (
+  λ h. let t = map-In f l (f x) h in d .0 (subst (λ z. In z l) (sym (inj x (t .0) (t .2))) (t .1)),
+  noDup-map f inj l (d .1),
+)
+
+-- an element at which f is least
+pub least-of : {A : Type 0} (f : A → ℕ) (a : A) (l : List A) → (y : A) × In y (a ∷ l) × ((z : A) → In z (a ∷ l) → f y ≤ f z)
+least-of f a [] = (a, inl refl, λ z i. elim i [ inl e ↦ subst (λ w. f a ≤ f w) (sym e) (le-refl (f a)) | inr b ↦ absurd b ])
+least-of {A} f a (b ∷ l) = go (least-of f b l)
+  where
+    go : (y : A) × In y (b ∷ l) × ((z : A) → In z (b ∷ l) → f y ≤ f z) → (y : A) × In y (a ∷ b ∷ l) × ((z : A) → In z (a ∷ b ∷ l) → f y ≤ f z)
+    go (y, i, h) = by (decLe (f a) (f y))
+      where
+        by : Dec (f a ≤ f y) → (y : A) × In y (a ∷ b ∷ l) × ((z : A) → In z (a ∷ b ∷ l) → f y ≤ f z)
+        by (yes le) = (a, inl refl, λ z j. elim j [ inl e ↦ subst (λ w. f a ≤ f w) (sym e) (le-refl (f a)) | inr k ↦ le-trans le (h z k) ])
+        by (no q) = (y, inr i, λ z j. elim j [ inl e ↦ subst (λ w. f y ≤ f w) (sym e) (omega arith) | inr k ↦ h z k ])
 
 -- ---- selections
 
@@ -139,6 +168,15 @@ module _ {A : Type 0} where
       go true e (inl q) r = rw (q, e) tt
       go true e (inr i) r = r i
       go false e i r = r i
+
+  pub select-from : (p : A → Bool) (l : List A) (x : A) → In x (select p l) → In x l
+  select-from p [] x h = absurd h
+  select-from p (y ∷ l) x h = go (p y) h (select-from p l x)
+    where
+      go : (b : Bool) → In x (put b y (select p l)) → (In x (select p l) → In x l) → In x (y ∷ l)
+      go true (inl e) r = inl e
+      go true (inr i) r = inr (r i)
+      go false i r = inr (r i)
 
   pub select-In : (p : A → Bool) (l : List A) (x : A) → In x l → T (p x) → In x (select p l)
   select-In p [] x h t = absurd h

@@ -54,7 +54,8 @@ pub fn less(s: u64, t: u64) -> u64
 pub fn is_subset(s: u64, t: u64) -> bool
     ensures { λ r. ⌜ r ≡ subset 64 s t ⌝ }
 {
-    s & t == s
+    let both = s & t;
+    both == s
 }
 
 // How many members s has.
