@@ -48,10 +48,10 @@ module _ (rows : List ℕ) (i all s : ℕ) (below : IsBelow (length rows) all) (
 
 module _ (P : ℕ → Type 0) (n i : ℕ) where
   pub first-lowest : FirstRow P n i → i < n → LowestRow P n i
-  first-lowest f b = record { below = b; here = f .here b; before = f .before }
+  first-lowest f b = record { below = b; here = f .here b; before = f .earlier }
 
   pub first-none : FirstRow P n i → n ≤ i → NoRow P n
-  first-none f b j l = f .before j (omega arith)
+  first-none f b j l = f .earlier j (omega arith)
 
 -- ---- the tests say what they should
 
@@ -63,15 +63,13 @@ module _ (rows : List ℕ) (i : ℕ) where
     where
       high : getD rows i 0 / 2 ^ length rows ≢ 0
       high e =
-          let h = leb→le (2 ^ length rows) (getD rows i 0) t in
-          let z : ⊥ = not-lt (omega (arith, split (getD rows i 0) (length rows), mod-lt (getD rows i 0) (pow-pos (length rows)), zeroed e)) in
-          z
-        where
-          zeroed : getD rows i 0 / 2 ^ length rows ≡ 0 → getD rows i 0 / 2 ^ length rows * 2 ^ length rows ≡ 0
-          zeroed e = ap (λ (x : ℕ). x * 2 ^ length rows) e ∙ zero-mul (2 ^ length rows)
-
-          not-lt : getD rows i 0 < 2 ^ length rows → ⊥
-          not-lt b = omega (arith, leb→le (2 ^ length rows) (getD rows i 0) t)
+          let z : getD rows i 0 / 2 ^ length rows * 2 ^ length rows ≡ 0 = ap (λ (x : ℕ). x * 2 ^ length rows) e ∙ zero-mul (2 ^ length rows) in
+          omega (
+            arith,
+            leb→le (2 ^ length rows) (getD rows i 0) t,
+            split (getD rows i 0) (length rows),
+            mod-lt (getD rows i 0) (pow-pos (length rows)),
+          )
 
   test-stray : HasStray rows i → T (strayAt rows i)
   test-stray (j, b, t) = go (decLt (getD rows i 0) (2 ^ length rows))

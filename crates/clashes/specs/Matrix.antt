@@ -52,7 +52,7 @@ NoRow P n = (i : ℕ) → i < n → ¬ P i
 pub record FirstRow (P : ℕ → Type 0) (n i : ℕ) : Type 0 where
   pub most : i ≤ n
   pub here : i < n → P i
-  pub before : (j : ℕ) → j < i → ¬ P j
+  pub earlier : (j : ℕ) → j < i → ¬ P j
 
 -- at most 64 rows, and no stray bit
 pub record Inside (rows : List ℕ) : Type 0 where

@@ -1,7 +1,7 @@
 -- Laws of lists: counts, tables, elements, lists with no element twice, selections, the greatest. Assumes nothing.
 use mathlib.Core.Path.{_≡_, refl, sym, ap, _∙_, subst}
 use mathlib.Core.Logic.{_⊎_, inl, inr, _≢_}
-use mathlib.Core.Bool.{Bool, true, false, cond}
+use mathlib.Core.Bool.{Bool, true, false, _&&_, cond}
 use mathlib.Core.List.{List, [], _∷_, _++_, map}
 use mathlib.Core.Option.{Option, none, some, Option·none-ne-some, Option·some-ne-none, Option·some-injective}
 use Prim.Native.Nat.{ℕ, zero, suc, _+_, _≤_, _<_, zero-le, suc-le-suc}
@@ -10,8 +10,8 @@ use native.Mathlib.Decide.{decLe}
 use native.Mathlib.Omega.{arith}
 use lib.Dec.{T, leb}
 use lib.ListN.{length, getD}
-use Rattle.sets.specs.Lists.{bit, In, NoDup, count, table, put, select, better, greatest}
-use Rattle.sets.proofs.TestLaws.{bit-one, bit-zero, T?}
+use Rattle.sets.specs.Lists.{bit, In, NoDup, count, every, table, put, select, better, greatest}
+use Rattle.sets.proofs.TestLaws.{and-l, and-r, bit-one, bit-zero, T?}
 
 module _ {A : Type 0} where
   -- ---- counts
@@ -144,6 +144,12 @@ noDup-map f inj (x ∷ l) d = (
   λ h. let t = map-In f l (f x) h in d .0 (subst (λ z. In z l) (sym (inj x (t .0) (t .2))) (t .1)),
   noDup-map f inj l (d .1),
 )
+
+-- what `every` says
+pub every-get : {A : Type 0} (p : A → Bool) (l : List A) → T (every p l) → (x : A) → In x l → T (p x)
+every-get p [] t x i = absurd i
+every-get p (y ∷ l) t x (inl e) = subst (λ z. T (p z)) (sym e) (and-l (p y) (every p l) t)
+every-get p (y ∷ l) t x (inr i) = every-get p l (and-r (p y) (every p l) t) x i
 
 -- an element at which f is least
 pub least-of : {A : Type 0} (f : A → ℕ) (a : A) (l : List A) → (y : A) × In y (a ∷ l) × ((z : A) → In z (a ∷ l) → f y ≤ f z)

@@ -58,11 +58,17 @@ pub fn is_subset(s: u64, t: u64) -> bool
     both == s
 }
 
+fn wide(x: u32) -> usize
+    ensures { λ r. ⌜ r ≡ x ⌝ }
+{
+    x as usize
+}
+
 // How many members s has.
 pub fn size(s: u64) -> usize
     ensures { λ r. ⌜ r ≡ sizeOf 64 s ⌝ }
 {
-    u64::count_ones(s) as usize
+    wide(u64::count_ones(s))
 }
 
 // The lowest member of a set that has one.
@@ -70,7 +76,7 @@ pub fn lowest(s: u64) -> usize
     requires { ⌜ (s ≡ 0 → ⊥) ⌝ }
     ensures { λ r. ⌜ IsLowest 64 s r ⌝ }
 {
-    u64::trailing_zeros(s) as usize
+    wide(u64::trailing_zeros(s))
 }
 
 // The numbers below n.

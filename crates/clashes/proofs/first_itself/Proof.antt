@@ -32,7 +32,7 @@ returns : tie.Need-returns Inv-loop μ-loop
 returns c = record {
   most = omega arith;
   here = λ b. subst T (sym (c .if1 .taken) ∙ c .before .has .ensures) tt;
-  before = c .before .before .before .before .loop .inv .1;
+  earlier = c .before .before .before .before .loop .inv .1;
 }
 
 add-i : tie.Need-add-i Inv-loop μ-loop
@@ -48,7 +48,7 @@ loop-again c = (
 )
 
 returns-2 : tie.Need-returns-2 Inv-loop μ-loop
-returns-2 c = record { most = omega arith; here = λ b. absurd (omega arith); before = c .before .loop .inv .1 }
+returns-2 c = record { most = omega arith; here = λ b. absurd (omega arith); earlier = c .before .loop .inv .1 }
 
 pub first-itself-spec : {M : Type 1} → statement M
 first-itself-spec =

@@ -23,7 +23,7 @@ returns : tie.Need-returns Inv-loop μ-loop
 returns c = record {
   most = omega arith;
   here = λ b. c .before .is-one-sided .ensures .0 (c .if1 .taken);
-  before = c .before .before .before .loop .inv .1;
+  earlier = c .before .before .before .loop .inv .1;
 }
 
 add-i : tie.Need-add-i Inv-loop μ-loop
@@ -36,7 +36,7 @@ loop-again : tie.Need-loop-again Inv-loop μ-loop
 loop-again c = (omega arith, below-more _ _ (c .before .before .before .loop .inv .1) (c .before .is-one-sided .ensures .1 (c .if1 .left)))
 
 returns-2 : tie.Need-returns-2 Inv-loop μ-loop
-returns-2 c = record { most = omega arith; here = λ b. absurd (omega arith); before = c .before .loop .inv .1 }
+returns-2 c = record { most = omega arith; here = λ b. absurd (omega arith); earlier = c .before .loop .inv .1 }
 
 pub first-one-sided-spec : {M : Type 1} → statement M
 first-one-sided-spec =

@@ -40,7 +40,7 @@ returns c =
     record {
       most = omega arith;
       here = λ b. stray-some (c .before .before .before .before .before .before .before .args .rows .now) (l .i) _ _ (l .inv .0) (c .before .less .ensures) (c .if1 .taken);
-      before = l .inv .2;
+      earlier = l .inv .2;
     }
 
 add-i : tie.Need-add-i Inv-loop μ-loop
@@ -55,7 +55,7 @@ loop-again c =
     (l .inv .0, omega arith, below-more _ _ (l .inv .2) (stray-none (c .before .before .before .before .before .before .before .args .rows .now) (l .i) _ _ (l .inv .0) (c .before .less .ensures) (c .if1 .left)))
 
 returns-2 : tie.Need-returns-2 Inv-loop μ-loop
-returns-2 c = record { most = omega arith; here = λ b. absurd (omega arith); before = c .before .loop .inv .2 }
+returns-2 c = record { most = omega arith; here = λ b. absurd (omega arith); earlier = c .before .loop .inv .2 }
 
 pub first-stray-spec : {M : Type 1} → statement M
 first-stray-spec =
