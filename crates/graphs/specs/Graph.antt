@@ -11,6 +11,7 @@
 --   common n g (u, v)  : how many neighbours u and v have in common
 --   pair n g           : of the gaps the one with most common neighbours, then smallest u, then smallest v; none in a complete graph
 --   complete n g       : every two live vertices are adjacent
+--   missing n g        : how many gaps there are
 --   grouping n g       : the groups of g, numbered from 0 by smallest member
 --   graph n clash      : the graph of a list: every entry stands for itself
 --
@@ -60,6 +61,9 @@ pair n g = greatest (common n g) (select (gap n g) (cross n n))
 
 abbrev pub complete : ℕ → Graph → Bool
 complete n g = all n (λ x. all n (λ y. not (gap n g (x, y))))
+
+abbrev pub missing : ℕ → Graph → ℕ
+missing n g = count (gap n g) (cross n n)
 
 abbrev pub grouping : ℕ → Graph → List ℕ
 grouping n g = division ℕ-discrete n (g .rep)
