@@ -1,21 +1,85 @@
 -- Laws of a node's groups: they are a division of the entries, with as many groups as live vertices. Assumes nothing.
-use mathlib.Core.Path.{_≡_, sym, ap, _∙_, subst}
-use mathlib.Core.Logic.{_⊎_, inl, inr}
-use mathlib.Core.List.{List, []}
-use Prim.Native.Nat.{ℕ, _≤_, _<_}
+use mathlib.Core.Path.{_≡_, refl, sym, ap, _∙_, subst}
+use mathlib.Core.Logic.{_⊎_, inl, inr, _≢_}
+use mathlib.Core.List.{List, [], _∷_, _++_}
+use Prim.Native.Nat.{ℕ, suc, _≤_, _<_, max}
 use native.Mathlib.Nat.{le-antisymm}
 use native.Mathlib.Decide.{ℕ-discrete}
-use lib.ListN.{length}
+use native.Mathlib.Omega.{arith}
+use lib.ListN.{length, List·getD-append}
+use lib.Seq.{getD-at}
 use Rattle.sets.specs.Lists.{In, table}
-use Rattle.sets.proofs.ListLaws.{table-In, In-table, noDup-le}
-use Rattle.clashes.specs.Labels.{distinct}
-use Rattle.clashes.specs.Divisions.{at, groups, Division, SameGroups}
-use Rattle.clashes.proofs.NumberLaws.{distinct-new, distinct-cases, distinct-noDup}
+use Rattle.sets.proofs.ListLaws.{table-In, In-table, table-suc, noDup-le}
+use Rattle.clashes.specs.Labels.{add, place, distinct, number}
+use Rattle.clashes.specs.Divisions.{at, groups, division, Division, SameGroups}
+use Rattle.clashes.proofs.NumberLaws.{place-new, distinct-new, distinct-cases, distinct-noDup}
 use Rattle.clashes.proofs.DivisionLaws.{division-canon, division-length, division-groups, division-same, division-diff}
+use Rattle.clashes.proofs.ColouringLaws.{canon-below}
 use Rattle.graphs.specs.Graph.{Graph, live, vertices, grouping}
 use Rattle.graphs.specs.Good.{Live, Good}
 use Rattle.graphs.proofs.PairLaws.{members-noDup}
 use Rattle.graphs.proofs.GraphLaws.{vertices-live, live-vertices}
+
+-- ---- one entry more
+
+groups-behind : (m : ℕ) (c : List ℕ) (k : ℕ) → groups m (c ++ k ∷ []) ≡ max (groups m c) (suc k)
+groups-behind m [] k = refl
+groups-behind m (j ∷ c) k = groups-behind (max m (suc j)) c k
+
+number-behind : (s l : List ℕ) (x : ℕ) → number ℕ-discrete s (l ++ x ∷ []) ≡ number ℕ-discrete s l ++ place ℕ-discrete x (distinct ℕ-discrete s l) ∷ []
+number-behind s [] x = refl
+number-behind s (y ∷ l) x = ap (λ t. place ℕ-discrete y s ∷ t) (number-behind (add ℕ-discrete s y) l x)
+
+-- the groups of the entries below i
+abbrev pub part : (ℕ → ℕ) → ℕ → List ℕ
+part f i = division ℕ-discrete i f
+
+part-next : (f : ℕ → ℕ) (i : ℕ) → part f (suc i) ≡ part f i ++ place ℕ-discrete (f i) (distinct ℕ-discrete [] (table f i)) ∷ []
+part-next f i = ap (number ℕ-discrete []) (table-suc f i) ∙ number-behind [] (table f i) (f i)
+
+-- a group of its own, with the next number, where i is none of the names before
+pub part-opens : (f : ℕ → ℕ) (i : ℕ) → ((j : ℕ) → j < i → f j ≢ f i) → part f (suc i) ≡ part f i ++ groups 0 (part f i) ∷ []
+part-opens f i q =
+    part-next f i
+    ∙ ap (λ (p : ℕ). part f i ++ p ∷ []) (place-new ℕ-discrete (f i) (distinct ℕ-discrete [] (table f i)) new ∙ sym (division-groups ℕ-discrete i f))
+  where
+    new : ¬ In (f i) (distinct ℕ-discrete [] (table f i))
+    new h = elim (distinct-cases ℕ-discrete [] (table f i) (f i) h) [ inl b ↦ b | inr m ↦ (let t = table-In f i (f i) m in q (t .0) (t .1) (sym (t .2))) ]
+
+-- the group of w, where w has i's name
+pub part-joins : (f : ℕ → ℕ) (i w : ℕ) → w < i → f w ≡ f i → part f (suc i) ≡ part f i ++ at (part f i) w ∷ []
+part-joins f i w b e = part-next f i ∙ ap (λ (p : ℕ). part f i ++ p ∷ []) same
+  where
+    p : ℕ
+    p = place ℕ-discrete (f i) (distinct ℕ-discrete [] (table f i))
+
+    long : length (part f i) ≡ i
+    long = division-length ℕ-discrete i f
+
+    same : place ℕ-discrete (f i) (distinct ℕ-discrete [] (table f i)) ≡ at (part f i) w
+    same =
+        sym (getD-at (part f i) (place ℕ-discrete (f i) (distinct ℕ-discrete [] (table f i))) [] 0 i long)
+        ∙ ap (λ (c : List ℕ). at c i) (sym (part-next f i))
+        ∙ division-same ℕ-discrete (suc i) f i w (omega arith) (omega arith) (sym e)
+        ∙ ap (λ (c : List ℕ). at c w) (part-next f i)
+        ∙ List·getD-append (part f i) (place ℕ-discrete (f i) (distinct ℕ-discrete [] (table f i)) ∷ []) 0 w (omega (arith, long))
+
+-- how many groups there are then
+pub groups-opens : (f : ℕ → ℕ) (i : ℕ) → ((j : ℕ) → j < i → f j ≢ f i) → groups 0 (part f (suc i)) ≡ suc (groups 0 (part f i))
+groups-opens f i q = ap (groups 0) (part-opens f i q) ∙ groups-behind 0 (part f i) (groups 0 (part f i)) ∙ up (groups 0 (part f i))
+  where
+    up : (m : ℕ) → max m (suc m) ≡ suc m
+    up m = omega arith
+
+pub groups-joins : (f : ℕ → ℕ) (i w : ℕ) → w < i → f w ≡ f i → groups 0 (part f (suc i)) ≡ groups 0 (part f i)
+groups-joins f i w b e =
+    ap (groups 0) (part-joins f i w b e) ∙ groups-behind 0 (part f i) (at (part f i) w)
+    ∙ stay (groups 0 (part f i)) (at (part f i) w) (canon-below 0 (part f i) w (omega (arith, division-length ℕ-discrete i f)))
+  where
+    stay : (m k : ℕ) → k < m → max m (suc k) ≡ m
+    stay m k l = omega arith
+
+-- ---- the groups of a node
 
 module _ (n : ℕ) (g : Graph) where
   pub grouping-division : Division n (grouping n g)

@@ -1,5 +1,24 @@
-// A node of the walk, held in words: how many entries there are, the live vertices, a row of neighbours for each, and which live vertex
-// stands for each entry. It goes in by value and comes back by value.
+// A node of the walk, held in words. It goes in by value and comes back by value; each contract says, by the view of the result, which graph
+// it holds.
+use sets::below;
+use sets::join;
+use sets::less;
+use sets::lowest;
+use sets::meet;
+use sets::size;
+use sets::with;
+use sets::without;
+ghost use mathlib.Core.Path.{_≡_};
+ghost use Prim.Native.Nat.{_<_};
+ghost use lib.ListN.{take};
+ghost use Rattle.sets.specs.Lists.{members, over};
+ghost use Rattle.sets.specs.Set.{has as member};
+ghost use Rattle.clashes.specs.Matrix.{Sound};
+ghost use Rattle.graphs.specs.Graph.{to, merge, separate, pair, complete, grouping};
+ghost use Rattle.graphs.specs.Held.{Held, view, choiceOf};
+ghost use Rattle.graphs.specs.Acts.{IsRoot, AtPair, Becomes, Linked, Renamed, lead, shared};
+
+// How many entries there are, the live vertices, a row of neighbours for each, and which live vertex stands for each entry.
 pub struct Node {
     pub n: usize,
     pub live: u64,
@@ -11,4 +30,195 @@ pub struct Node {
 pub enum Choice {
     Complete,
     Split(usize, usize),
+}
+
+// The pair that leads so far, with one more than its common neighbours; 0 where there is none yet.
+pub struct Lead {
+    pub size: usize,
+    pub u: usize,
+    pub v: usize,
+}
+
+// The node of a list: every entry stands for itself.
+pub fn root(rows: &[u64]) -> Node
+    requires { ⌜ Sound (now rows) ⌝ }
+    ensures { λ r. ⌜ IsRoot (now (rows .entry)) r ⌝ }
+{
+    let n = rows.len();
+    let mut held: [u64; 64] = [0; 64];
+    let mut names: [u8; 64] = [0; 64];
+    let mut i = 0;
+    while i < n {
+        held[i] = rows[i];
+        names[i] = i as u8;
+        i += 1;
+    }
+    let live = below(n);
+    Node {
+        n: n,
+        live: live,
+        rows: held,
+        names: names,
+    }
+}
+
+// u becomes a neighbour of each vertex of s.
+fn linked(rows: [u64; 64], u: usize, s: u64) -> [u64; 64]
+    requires { ⌜ u < 64 ⌝ }
+    ensures { λ r. ⌜ Linked rows u s r ⌝ }
+{
+    let mut new = rows;
+    let mut left = s;
+    while left != 0 {
+        let x = lowest(left);
+        left = without(left, x);
+        new[x] = with(new[x], u);
+    }
+    new
+}
+
+// u for v.
+fn renamed(w: u8, u: u8, v: u8) -> u8
+    ensures { λ r. ⌜ r ≡ to u v w ⌝ }
+{
+    if w == v {
+        return u;
+    }
+    w
+}
+
+// Every entry that v stood for has u now.
+fn all_renamed(names: [u8; 64], u: u8, v: u8) -> [u8; 64]
+    requires { ⌜ u < v ⌝ }
+    ensures { λ r. ⌜ Renamed names u v r ⌝ }
+{
+    let mut new = names;
+    let mut i = 0;
+    while i < 64 {
+        let w = new[i];
+        new[i] = renamed(w, u, v);
+        i += 1;
+    }
+    new
+}
+
+// v leaves, the row of u is the two rows joined, neighbours of v become neighbours of u.
+pub fn merged(h: Node, u: usize, v: usize) -> Node
+    requires { ⌜ AtPair h u v ⌝ }
+    ensures { λ r. ⌜ Becomes h r (merge u v (view h)) ⌝ }
+{
+    let rows = h.rows;
+    let names = h.names;
+    let near = meet(rows[v], h.live);
+    let mut new = linked(rows, u, near);
+    new[u] = join(rows[u], rows[v]);
+    let renamed = all_renamed(names, u as u8, v as u8);
+    let live = without(h.live, v);
+    Node {
+        n: h.n,
+        live: live,
+        rows: new,
+        names: renamed,
+    }
+}
+
+// u and v become adjacent.
+pub fn separated(h: Node, u: usize, v: usize) -> Node
+    requires { ⌜ AtPair h u v ⌝ }
+    ensures { λ r. ⌜ Becomes h r (separate u v (view h)) ⌝ }
+{
+    let mut r = h;
+    let ru = with(r.rows[u], v);
+    let rv = with(r.rows[v], u);
+    r.rows[u] = ru;
+    r.rows[v] = rv;
+    r
+}
+
+// Is every two live vertices adjacent?
+pub fn is_complete(h: Node) -> bool
+    requires { ⌜ Held h ⌝ }
+    ensures { λ r. ⌜ r ≡ complete (h .n) (view h) ⌝ }
+{
+    let rows = h.rows;
+    let mut left = h.live;
+    while left != 0 {
+        let x = lowest(left);
+        left = without(left, x);
+        let apart = less(left, rows[x]);
+        if apart != 0 {
+            return false;
+        }
+    }
+    true
+}
+
+// The leading pair after u with each vertex of apart: near are u's neighbours.
+fn led(rows: [u64; 64], u: usize, near: u64, apart: u64, best: Lead) -> Lead
+    ensures { λ r. ⌜ r ≡ over (lead (shared rows near) u) best (members (member apart) 64) ⌝ }
+{
+    let mut best = best;
+    let mut left = apart;
+    while left != 0 {
+        let v = lowest(left);
+        left = without(left, v);
+        let common = size(meet(near, rows[v])) + 1;
+        if best.size < common {
+            best = Lead {
+                size: common,
+                u: u,
+                v: v,
+            };
+        }
+    }
+    best
+}
+
+// Of the non-adjacent live u < v the pair with most common neighbours, then smallest u, then smallest v.
+pub fn choose(h: Node) -> Choice
+    requires { ⌜ Held h ⌝ }
+    ensures { λ r. ⌜ choiceOf r ≡ pair (h .n) (view h) ⌝ }
+{
+    let rows = h.rows;
+    let live = h.live;
+    let mut best = Lead {
+        size: 0,
+        u: 0,
+        v: 0,
+    };
+    let mut left = live;
+    while left != 0 {
+        let u = lowest(left);
+        left = without(left, u);
+        let near = meet(rows[u], live);
+        let apart = less(left, near);
+        best = led(rows, u, near, apart, best);
+    }
+    if best.size == 0 {
+        return Choice::Complete;
+    }
+    Choice::Split(best.u, best.v)
+}
+
+// The groups, numbered from 0 by smallest member: who stands for itself opens the next number, any other takes its name's.
+pub fn colours(h: Node) -> [u8; 64]
+    requires { ⌜ Held h ⌝ }
+    ensures { λ r. ⌜ take (h .n) r ≡ grouping (h .n) (view h) ⌝ }
+{
+    let n = h.n;
+    let names = h.names;
+    let mut out: [u8; 64] = [0; 64];
+    let mut next: u8 = 0;
+    let mut i = 0;
+    while i < n {
+        let w = names[i] as usize;
+        if w == i {
+            out[i] = next;
+            next += 1;
+        } else {
+            out[i] = out[w];
+        }
+        i += 1;
+    }
+    out
 }

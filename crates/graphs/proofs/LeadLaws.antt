@@ -1,0 +1,132 @@
+-- Laws of the pair that leads: going through the pairs from the first on, and changing only for strictly more, ends at the first greatest.
+-- Assumes nothing.
+use mathlib.Core.Path.{_≡_, refl, sym, ap, _∙_, subst}
+use mathlib.Core.Bool.{Bool, true, false, cond}
+use mathlib.Core.List.{List, [], _∷_, _++_, map}
+use mathlib.Core.Option.{Option, none, some}
+use mathlib.Core.Logic.{inl, inr}
+use Prim.Native.Nat.{ℕ, zero, suc, _≤_, _<_}
+use native.Mathlib.Omega.{arith}
+use lib.Dec.{T, leb, ltb}
+use borrow.Author.Tests.{leb-true, leb-false, le-leb, lt-leb, lt-ltb, le-ltb}
+use Rattle.sets.specs.Lists.{In, table, keep, members, put, select, better, greatest, cross, over}
+use Rattle.sets.proofs.ListLaws.{table-suc}
+use Rattle.graphs.specs.Acts.{lead}
+use Rattle.graphs.specs.declared.Lead.{Lead}
+
+pub over-append : {A B : Type 0} (f : B → A → B) (s : B) (k l : List A) → over f s (k ++ l) ≡ over f (over f s k) l
+over-append f s [] l = refl
+over-append f s (x ∷ k) l = over-append f (f s x) k l
+
+module _ {A : Type 0} (f : A → ℕ) where
+  -- the better of two, the first where they are alike
+  abbrev pub both : Option A → Option A → Option A
+  both none o = o
+  both (some x) o = better f x o
+
+  -- what leads after x
+  abbrev pub after : Option A → A → Option A
+  after o x = both o (some x)
+
+  both-none : (o : Option A) → both o none ≡ o
+  both-none none = refl
+  both-none (some x) = refl
+
+  both-assoc : (a b c : Option A) → both (both a b) c ≡ both a (both b c)
+  both-assoc none b c = refl
+  both-assoc (some x) none c = refl
+  both-assoc (some x) (some y) none = both-none (better f x (some y))
+  both-assoc (some x) (some y) (some z) = go (leb (f y) (f x)) (leb (f z) (f y)) refl refl
+    where
+      go : (p q : Bool) → leb (f y) (f x) ≡ p → leb (f z) (f y) ≡ q → both (cond p (some x) (some y)) (some z) ≡ better f x (cond q (some y) (some z))
+      go true true a b =
+          let l : f z ≤ f x = omega (arith, leb-true (f y) (f x) a, leb-true (f z) (f y) b) in
+          ap (λ (t : Bool). cond t (some x) (some z)) (le-leb (f z) (f x) l) ∙ sym (ap (λ (t : Bool). cond t (some x) (some y)) a)
+      go true false a b = refl
+      go false true a b = ap (λ (t : Bool). cond t (some y) (some z)) b ∙ sym (ap (λ (t : Bool). cond t (some x) (some y)) a)
+      go false false a b =
+          let l : f x < f z = omega (arith, leb-false (f y) (f x) a, leb-false (f z) (f y) b) in
+          ap (λ (t : Bool). cond t (some y) (some z)) b ∙ sym (ap (λ (t : Bool). cond t (some x) (some z)) (lt-leb (f z) (f x) l))
+
+  pub over-greatest : (o : Option A) (l : List A) → over after o l ≡ both o (greatest f l)
+  over-greatest o [] = sym (both-none o)
+  over-greatest o (x ∷ l) = over-greatest (after o x) l ∙ both-assoc o (some x) (greatest f l)
+
+-- ---- row by row
+
+select-append : {A : Type 0} (p : A → Bool) (k l : List A) → select p (k ++ l) ≡ select p k ++ select p l
+select-append p [] l = refl
+select-append p (x ∷ k) l = go (p x) (select-append p k l)
+  where
+    go : (b : Bool) → select p (k ++ l) ≡ select p k ++ select p l → put b x (select p (k ++ l)) ≡ put b x (select p k) ++ select p l
+    go true e = ap (λ t. x ∷ t) e
+    go false e = e
+
+-- x with each of l
+abbrev pub pairs : ℕ → List ℕ → List (ℕ × ℕ)
+pairs x l = map {B = ℕ × ℕ} (λ y. (x, y)) l
+
+module _ (x : ℕ) where
+  pairs-append : (k l : List ℕ) → pairs x (k ++ l) ≡ pairs x k ++ pairs x l
+  pairs-append [] l = refl
+  pairs-append (y ∷ k) l = ap (λ t. (x, y) ∷ t) (pairs-append k l)
+
+  -- the pairs of a row that pass
+  select-row : (p : ℕ × ℕ → Bool) (n : ℕ) → select p (table (λ y. (x, y)) n) ≡ pairs x (members (λ y. p (x, y)) n)
+  select-row p zero = refl
+  select-row p (suc n) =
+      ap (select p) (table-suc (λ y. (x, y)) n) ∙ select-append p (table (λ y. (x, y)) n) ((x, n) ∷ [])
+      ∙ ap (λ t. t ++ select p ((x, n) ∷ [])) (select-row p n)
+      ∙ ap (λ t. pairs x (members (λ y. p (x, y)) n) ++ t) (one (p (x, n)))
+      ∙ sym (pairs-append (members (λ y. p (x, y)) n) (keep (p (x, n)) n))
+    where
+      one : (b : Bool) → put {A = ℕ × ℕ} b (x, n) [] ≡ pairs x (keep b n)
+      one true = refl
+      one false = refl
+
+-- what leads after the row of x
+abbrev pub row-lead : (ℕ × ℕ → ℕ) → (ℕ × ℕ → Bool) → ℕ → Option (ℕ × ℕ) → ℕ → Option (ℕ × ℕ)
+row-lead f p n o x = over (after f) o (pairs x (members (λ y. p (x, y)) n))
+
+-- all rows, where those that fail the test q have no pair
+pub cross-lead : (f : ℕ × ℕ → ℕ) (p : ℕ × ℕ → Bool) (q : ℕ → Bool) (n k : ℕ) → ((x : ℕ) → ¬ T (q x) → members (λ y. p (x, y)) n ≡ [])
+    → (o : Option (ℕ × ℕ)) → over (after f) o (select p (cross k n)) ≡ over (row-lead f p n) o (members q k)
+cross-lead f p q n zero h o = refl
+cross-lead f p q n (suc k) h o =
+    ap (over (after f) o) (select-append p (cross k n) (table (λ y. (k, y)) n))
+    ∙ over-append (after f) o (select p (cross k n)) (select p (table (λ y. (k, y)) n))
+    ∙ ap (λ s. over (after f) s (select p (table (λ y. (k, y)) n))) (cross-lead f p q n k h o)
+    ∙ ap (over (after f) (over (row-lead f p n) o (members q k))) (select-row k p n)
+    ∙ go (q k) (h k) ∙ sym (over-append (row-lead f p n) o (members q k) (keep (q k) k))
+  where
+    go : (b : Bool) → (¬ T b → members (λ y. p (k, y)) n ≡ [])
+        → row-lead f p n (over (row-lead f p n) o (members q k)) k ≡ over (row-lead f p n) (over (row-lead f p n) o (members q k)) (keep b k)
+    go true e = refl
+    go false e = ap (λ l. over (after f) (over (row-lead f p n) o (members q k)) (pairs k l)) (e (λ t. t))
+
+-- ---- what the code holds of the pair that leads
+
+abbrev pub Leads : (ℕ × ℕ → ℕ) → Lead → Option (ℕ × ℕ) → Type 0
+Leads f l none = l .size ≡ 0
+Leads f l (some p) = (l .size ≡ suc (f p)) × (l .u ≡ p .0) × (l .v ≡ p .1)
+
+lead-after : (f : ℕ × ℕ → ℕ) (s : ℕ → ℕ) (u v : ℕ) (l : Lead) (o : Option (ℕ × ℕ)) → s v ≡ f (u, v) → Leads f l o → Leads f (lead s u l v) (after f o (u, v))
+lead-after f s u v l none e h =
+    subst (λ (b : Bool). Leads f (cond b (record { size = suc (s v); u = u; v = v }) l) (some (u, v))) (sym (lt-ltb (l .size) (suc (s v)) (omega arith))) (ap suc e, refl, refl)
+lead-after f s u v l (some p) e h = go (leb (f (u, v)) (f p)) refl
+  where
+    new : Lead
+    new = record { size = suc (s v); u = u; v = v }
+
+    go : (b : Bool) → leb (f (u, v)) (f p) ≡ b → Leads f (cond (ltb (l .size) (suc (s v))) (record { size = suc (s v); u = u; v = v }) l) (cond b (some p) (some (u, v)))
+    go true a =
+        subst (λ (b : Bool). Leads f (cond b (record { size = suc (s v); u = u; v = v }) l) (some p))
+        (sym (le-ltb (l .size) (suc (s v)) (omega (arith, h .0, e, leb-true (f (u, v)) (f p) a)))) h
+    go false a =
+        subst (λ (b : Bool). Leads f (cond b (record { size = suc (s v); u = u; v = v }) l) (some (u, v)))
+        (sym (lt-ltb (l .size) (suc (s v)) (omega (arith, h .0, e, leb-false (f (u, v)) (f p) a)))) (ap suc e, refl, refl)
+
+pub leads-over : (f : ℕ × ℕ → ℕ) (s : ℕ → ℕ) (u : ℕ) (vs : List ℕ) → ((v : ℕ) → In v vs → s v ≡ f (u, v)) → (l : Lead) (o : Option (ℕ × ℕ)) → Leads f l o
+    → Leads f (over (lead s u) l vs) (over (after f) o (pairs u vs))
+leads-over f s u [] e l o h = h
+leads-over f s u (v ∷ vs) e l o h = leads-over f s u vs (λ w i. e w (inr i)) (lead s u l v) (after f o (u, v)) (lead-after f s u v l o (e v (inl refl)) h)

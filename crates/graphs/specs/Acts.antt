@@ -1,0 +1,51 @@
+-- What the functions of this crate promise of a node, through its view, and what the inner ones promise of its parts.
+--
+--   IsRoot rows r        : r is the node of the list of these rows
+--   AtPair h u v         : u and v may be merged or separated in h
+--   Becomes h r g        : r is a node of as many entries as h, and holds g
+--   Linked rows u s r    : r are these rows, with u in each row of s
+--   Renamed names u v r  : r are these names, with u for v
+--   shared rows near v   : how many members of near are in the row of v
+--   lead f u l v         : the pair u, v, where f v is more than what leads so far, else what leads
+--
+-- Assumes nothing.
+use mathlib.Core.Path.{_≡_}
+use mathlib.Core.Bool.{_&&_, _||_, cond}
+use mathlib.Core.List.{List}
+use Prim.Native.Nat.{ℕ, zero, suc}
+use lib.Dec.{eqb, ltb}
+use lib.ListN.{length, getD}
+use Rattle.sets.specs.Lists.{count, upto}
+use Rattle.sets.specs.Set.{has}
+use Rattle.clashes.specs.Matrix.{matrix}
+use Rattle.graphs.specs.Graph.{Graph, to, graph}
+use Rattle.graphs.specs.Good.{Chosen}
+use Rattle.graphs.specs.Held.{Held, view}
+use Rattle.graphs.specs.declared.Node.{Node}
+use Rattle.graphs.specs.declared.Lead.{Lead}
+
+pub record IsRoot (rows : List ℕ) (r : Node) : Type 0 where
+  pub held : Held r
+  pub same : r .n ≡ length rows
+  pub is : view r ≡ graph (length rows) (matrix rows)
+
+pub record AtPair (h : Node) (u v : ℕ) : Type 0 where
+  pub held : Held h
+  pub chosen : Chosen (h .n) (view h) u v
+
+pub record Becomes (h r : Node) (g : Graph) : Type 0 where
+  pub held : Held r
+  pub same : r .n ≡ h .n
+  pub is : view r ≡ g
+
+abbrev pub Linked : List ℕ → ℕ → ℕ → List ℕ → Type 0
+Linked rows u s r = (x y : ℕ) → has (getD r x zero) y ≡ (has (getD rows x zero) y || (has s x && eqb u y))
+
+abbrev pub Renamed : List ℕ → ℕ → ℕ → List ℕ → Type 0
+Renamed names u v r = (i : ℕ) → getD r i zero ≡ to u v (getD names i zero)
+
+abbrev pub shared : List ℕ → ℕ → ℕ → ℕ
+shared rows near v = count (λ w. has near w && has (getD rows v zero) w) (upto 64)
+
+abbrev pub lead : (ℕ → ℕ) → ℕ → Lead → ℕ → Lead
+lead f u l v = cond (ltb (l .size) (suc (f v))) (record { size = suc (f v); u = u; v = v }) l
