@@ -10,7 +10,7 @@ use native.Mathlib.Omega.{arith}
 use lib.Dec.{T, ltb}
 use lib.ListN.{getD}
 use borrow.Author.Tests.{lt-ltb, le-ltb}
-use Rattle.sets.specs.Lists.{In, count, upto, members, select, greatest, cross, over}
+use Rattle.sets.specs.Lists.{In, count, upto, members, select, cross, over}
 use Rattle.sets.specs.Set.{has, size, IsWithout, IsMeet, IsLess, IsLowest}
 use Rattle.sets.proofs.TestLaws.{and-l, and-r, T→true}
 use Rattle.sets.proofs.MemberLaws.{count-agree, members-agree, members-none, In-members}

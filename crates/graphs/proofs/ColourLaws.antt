@@ -1,5 +1,5 @@
 -- Laws of the loop that numbers a node's groups. Assumes nothing.
-use mathlib.Core.Path.{_≡_, refl, sym, ap, _∙_, subst}
+use mathlib.Core.Path.{_≡_, sym, ap, _∙_}
 use mathlib.Core.Logic.{_≢_}
 use mathlib.Core.List.{List, [], _∷_, _++_}
 use Prim.Native.Nat.{ℕ, zero, suc, _+_, _≤_, _<_}
@@ -8,7 +8,7 @@ use native.Mathlib.Omega.{arith}
 use lib.ListN.{length, getD, set, take, length-set}
 use lib.Seq.{take-suc-set, getD-take}
 use Rattle.clashes.specs.Divisions.{at, groups}
-use Rattle.graphs.specs.Held.{Held, view}
+use Rattle.graphs.specs.Held.{Held}
 use Rattle.graphs.specs.declared.Node.{Node}
 use Rattle.graphs.proofs.GroupingLaws.{part, part-opens, part-joins, groups-opens, groups-joins}
 
@@ -41,9 +41,6 @@ module _ (h : Node) (k : Held h) (out : List ℕ) (next i : ℕ) (b : i < h .n) 
       new j c q = let s = k .good .smallest j (omega arith) in let z : ⊥ = omega (arith, s, q, e) in z
 
   -- another entry stands for i, and stands before it
-  pub name-before : (name i ≡ i → ⊥) → name i < i
-  name-before q = let s = k .good .smallest i b in omega (arith, s, q)
-
   pub coloured-joins : (name i ≡ i → ⊥) → Coloured (h .names) (set out i (getD out (name i) zero)) next (i + 1)
   coloured-joins q = record {
     long = length-set out i (getD out (name i) zero) ∙ d .long;
@@ -55,7 +52,7 @@ module _ (h : Node) (k : Held h) (out : List ℕ) (next i : ℕ) (b : i < h .n) 
   }
     where
       before : name i < i
-      before = name-before q
+      before = let s = k .good .smallest i b in omega (arith, s, q)
 
       same : name (name i) ≡ name i
       same = k .good .rep-live i b .self

@@ -1,14 +1,13 @@
 -- Laws of live vertices, of `to`, of the pair rule and of completeness. Assumes nothing.
-use mathlib.Core.Path.{_≡_, refl, sym}
+use mathlib.Core.Path.{_≡_, refl}
 use mathlib.Core.Logic.{_≢_}
 use mathlib.Core.Bool.{Bool, true, false, not, cond}
 use mathlib.Core.Option.{Option, none, some}
-use mathlib.Core.List.{List, [], _∷_}
 use Prim.Native.Nat.{ℕ, _<_}
 use native.Mathlib.Decide.{decLt}
 use native.Mathlib.Omega.{arith}
-use lib.Dec.{T, eqb, ltb, eqb→eq, T-not, not-T}
-use Rattle.sets.specs.Lists.{In, select, better, greatest, all, cross}
+use lib.Dec.{T, eqb, eqb→eq, T-not, not-T}
+use Rattle.sets.specs.Lists.{In, select, all, cross}
 use Rattle.sets.proofs.TestLaws.{T?, eqb-of, all-get, all-make}
 use Rattle.sets.proofs.ListLaws.{select-passes, select-In, greatest-In, greatest-none}
 use Rattle.sets.proofs.MemberLaws.{In-members, members-In}

@@ -2,7 +2,7 @@
 use mathlib.Core.Path.{_≡_, refl, sym, ap, _∙_, subst}
 use mathlib.Core.Logic.{_⊎_, inl, inr, _≢_}
 use mathlib.Core.List.{List, [], _∷_, _++_}
-use Prim.Native.Nat.{ℕ, suc, _≤_, _<_, max}
+use Prim.Native.Nat.{ℕ, suc, _<_, max}
 use native.Mathlib.Nat.{le-antisymm}
 use native.Mathlib.Decide.{ℕ-discrete}
 use native.Mathlib.Omega.{arith}
@@ -16,7 +16,7 @@ use Rattle.clashes.proofs.NumberLaws.{place-new, distinct-new, distinct-cases, 
 use Rattle.clashes.proofs.DivisionLaws.{division-canon, division-length, division-groups, division-same, division-diff}
 use Rattle.clashes.proofs.ColouringLaws.{canon-below}
 use Rattle.graphs.specs.Graph.{Graph, live, vertices, grouping}
-use Rattle.graphs.specs.Good.{Live, Good}
+use Rattle.graphs.specs.Good.{Good}
 use Rattle.graphs.proofs.PairLaws.{members-noDup}
 use Rattle.graphs.proofs.GraphLaws.{vertices-live, live-vertices}
 
@@ -50,9 +50,6 @@ part-opens f i q =
 pub part-joins : (f : ℕ → ℕ) (i w : ℕ) → w < i → f w ≡ f i → part f (suc i) ≡ part f i ++ at (part f i) w ∷ []
 part-joins f i w b e = part-next f i ∙ ap (λ (p : ℕ). part f i ++ p ∷ []) same
   where
-    p : ℕ
-    p = place ℕ-discrete (f i) (distinct ℕ-discrete [] (table f i))
-
     long : length (part f i) ≡ i
     long = division-length ℕ-discrete i f
 

@@ -3,24 +3,30 @@ use mathlib.Core.Path.{_≡_, refl, sym, ap, ap₂, _∙_, subst}
 use mathlib.Core.Logic.{_≢_}
 use mathlib.Core.Bool.{Bool, true, false, not, _&&_, _||_, cond}
 use mathlib.Core.List.{List}
-use Prim.Native.Nat.{ℕ, zero, _≤_, _<_}
-use native.Mathlib.Decide.{ℕ-discrete, decLt}
+use mathlib.Core.Option.{some}
+use Prim.Native.Nat.{ℕ, zero, suc, _≤_, _<_}
+use native.Mathlib.Decide.{ℕ-discrete}
 use native.Mathlib.Omega.{arith}
 use lib.Dec.{T, eqb, ltb, eqb→eq, ltb→lt}
 use lib.ListN.{length, getD, set}
 use lib.Seq.{getD-set-same, getD-set-other, lt-length-set}
-use borrow.Author.Tests.{eq-eqb, ne-eqb, lt-ltb, le-ltb}
-use Rattle.sets.specs.Set.{has, IsWith, IsWithout, IsJoin, IsMeet, IsBelow}
+use borrow.Author.Tests.{eq-eqb, ne-eqb, lt-ltb}
+use Rattle.sets.specs.Lists.{count, upto}
+use Rattle.sets.specs.Set.{has, size, IsWith, IsWithout, IsJoin, IsMeet, IsBelow}
 use Rattle.sets.proofs.TestLaws.{T?, T→true, T→false, T-ext, eqb-same, and-true}
-use Rattle.sets.proofs.SetLaws.{has-none}
+use Rattle.sets.proofs.MemberLaws.{count-agree, members-count}
+use Rattle.clashes.specs.Divisions.{groups}
 use Rattle.clashes.specs.Matrix.{matrix, Valid, Sound}
-use Rattle.graphs.specs.Graph.{Graph, live, to, merge, separate, graph}
-use Rattle.graphs.specs.Good.{Live, Good, Chosen, Merged, Parted}
+use Rattle.graphs.specs.Graph.{Graph, live, vertices, merge, separate, pair, missing, grouping, graph}
+use Rattle.graphs.specs.Good.{Live, Good, Merged, Parted}
 use Rattle.graphs.specs.Held.{Held, view}
 use Rattle.graphs.specs.Acts.{IsRoot, AtPair, Becomes, Linked, Renamed}
 use Rattle.graphs.specs.declared.Node.{Node}
-use Rattle.graphs.proofs.GraphLaws.{graph-ext, live-of, of-live, to-other}
-use Rattle.graphs.proofs.SplitLaws.{merge-is, separate-is, good-merged, good-parted, good-graph, merged-live, live-merged, parted-live, live-parted, graph-live, chosen-differ}
+use Rattle.graphs.proofs.GraphLaws.{graph-ext, live-of, of-live, to-other, pair-chosen}
+use Rattle.graphs.proofs.SplitLaws.{merge-is, separate-is, good-merged, good-parted, good-graph, merged-live, live-merged, graph-live, chosen-differ}
+use Rattle.graphs.proofs.MeasureLaws.{merged-count, merged-fewer, parted-count, parted-fewer}
+use Rattle.graphs.proofs.GroupingLaws.{grouping-groups}
+use Rattle.graphs.proofs.LoopLaws.{count-narrow}
 
 eqb-turn : (m k : ℕ) → eqb m k ≡ eqb k m
 eqb-turn m k = go (ℕ-discrete m k)
@@ -48,6 +54,49 @@ module _ (h : Node) (k : Held h) where
 
   pub live-below : (x : ℕ) → T (has (h .live) x) → x < h .n
   live-below x t = held-live x t .below
+
+-- ---- how many live vertices and groups a held node has
+
+module _ (h : Node) (k : Held h) where
+  pub held-count : size 64 (h .live) ≡ count (live (h .n) (view h)) (upto (h .n))
+  held-count =
+      count-narrow (has (h .live)) (h .n) 64 (k .few) (λ x b t. let c = live-below h k x t in let z : ⊥ = omega arith in z)
+      ∙ count-agree (h .n) (has (h .live)) (live (h .n) (view h)) (λ x b. k .lives x)
+
+  pub held-vertices : size 64 (h .live) ≡ length (vertices (h .n) (view h))
+  held-vertices = held-count ∙ sym (members-count (live (h .n) (view h)) (h .n))
+
+  pub held-groups : groups 0 (grouping (h .n) (view h)) ≡ size 64 (h .live)
+  held-groups = grouping-groups (h .n) (view h) (k .good) ∙ sym held-vertices
+
+  -- a choice that is a pair is one that may be merged or separated; one that is none is a complete graph
+  pub choice-pair : (u v : ℕ) → some (u, v) ≡ pair (h .n) (view h) → AtPair h u v
+  choice-pair u v e = record { held = k; chosen = pair-chosen (h .n) (view h) u v (k .good) (sym e) }
+
+-- ---- what falls
+
+module _ (h r : Node) (u v : ℕ) (p : AtPair h u v) where
+  pub merged-size : Becomes h r (merge u v (view h)) → suc (size 64 (r .live)) ≡ size 64 (h .live)
+  merged-size b =
+      ap suc (held-count r (b .held) ∙ ap₂ (λ (n : ℕ) (g : Graph). count (live n g) (upto n)) (b .same) (b .is))
+      ∙ merged-count (h .n) (view h) (merge u v (view h)) u v (p .held .good) (p .chosen) (merge-is (h .n) (view h) u v (p .held .good) (p .chosen))
+      ∙ sym (held-count h (p .held))
+
+  pub separated-size : Becomes h r (separate u v (view h)) → size 64 (r .live) ≡ size 64 (h .live)
+  separated-size b =
+      held-count r (b .held) ∙ ap₂ (λ (n : ℕ) (g : Graph). count (live n g) (upto n)) (b .same) (b .is)
+      ∙ parted-count (h .n) (view h) (separate u v (view h)) u v (p .held .good) (p .chosen) (separate-is (h .n) (view h) u v (p .held .good) (p .chosen))
+      ∙ sym (held-count h (p .held))
+
+  pub merged-missing : Becomes h r (merge u v (view h)) → missing (r .n) (view r) < missing (h .n) (view h)
+  merged-missing b =
+      subst (λ (m : ℕ). m < missing (h .n) (view h)) (sym (ap₂ (λ (n : ℕ) (g : Graph). missing n g) (b .same) (b .is)))
+      (merged-fewer (h .n) (view h) (merge u v (view h)) u v (p .held .good) (p .chosen) (merge-is (h .n) (view h) u v (p .held .good) (p .chosen)))
+
+  pub separated-missing : Becomes h r (separate u v (view h)) → missing (r .n) (view r) < missing (h .n) (view h)
+  separated-missing b =
+      subst (λ (m : ℕ). m < missing (h .n) (view h)) (sym (ap₂ (λ (n : ℕ) (g : Graph). missing n g) (b .same) (b .is)))
+      (parted-fewer (h .n) (view h) (separate u v (view h)) u v (p .held .good) (p .chosen) (separate-is (h .n) (view h) u v (p .held .good) (p .chosen)))
 
 -- ---- the root
 

@@ -115,9 +115,6 @@ lead-after f s u v l none e h =
     subst (λ (b : Bool). Leads f (cond b (record { size = suc (s v); u = u; v = v }) l) (some (u, v))) (sym (lt-ltb (l .size) (suc (s v)) (omega arith))) (ap suc e, refl, refl)
 lead-after f s u v l (some p) e h = go (leb (f (u, v)) (f p)) refl
   where
-    new : Lead
-    new = record { size = suc (s v); u = u; v = v }
-
     go : (b : Bool) → leb (f (u, v)) (f p) ≡ b → Leads f (cond (ltb (l .size) (suc (s v))) (record { size = suc (s v); u = u; v = v }) l) (cond b (some p) (some (u, v)))
     go true a =
         subst (λ (b : Bool). Leads f (cond b (record { size = suc (s v); u = u; v = v }) l) (some p))

@@ -1,8 +1,8 @@
 -- Laws of loops that go through a set's members, lowest first. Assumes nothing.
-use mathlib.Core.Path.{_≡_, refl, sym, ap, ap₂, _∙_, subst}
+use mathlib.Core.Path.{_≡_, refl, sym, ap, _∙_, subst}
 use mathlib.Core.Logic.{_≢_}
 use mathlib.Core.Bool.{Bool, true, false, not, _&&_, _||_, cond}
-use mathlib.Core.List.{List, [], _∷_, _++_, append-nil}
+use mathlib.Core.List.{List, [], _++_, append-nil}
 use Prim.Native.Nat.{ℕ, zero, suc, _+_, _≤_, _<_}
 use native.Mathlib.Decide.{ℕ-discrete, decLt}
 use native.Mathlib.Omega.{arith}
@@ -12,7 +12,7 @@ use lib.Seq.{getD-set-same, getD-set-other}
 use borrow.Author.Tests.{lt-ltb, le-ltb}
 use Rattle.sets.specs.Lists.{count, upto, keep, members, over}
 use Rattle.sets.specs.Set.{has, size, IsWithout, IsLowest}
-use Rattle.sets.proofs.TestLaws.{and-l, and-r, and-t, T-ext, eqb-of}
+use Rattle.sets.proofs.TestLaws.{and-l, and-r, and-t, T-ext}
 use Rattle.sets.proofs.ListLaws.{length-table}
 use Rattle.sets.proofs.MemberLaws.{members-count, members-none}
 use Rattle.sets.proofs.SetLaws.{has-none, size-without, members-cons}

@@ -1,9 +1,7 @@
 -- What falls: merging leaves one live vertex fewer, and both merging and separating leave fewer gaps. Assumes nothing.
 use mathlib.Core.Path.{_≡_, sym, ap, _∙_, subst, subst₂}
 use mathlib.Core.Logic.{_≢_}
-use mathlib.Core.Bool.{Bool}
-use mathlib.Core.List.{List}
-use Prim.Native.Nat.{ℕ, suc, _+_, _*_, _≤_, _<_}
+use Prim.Native.Nat.{ℕ, suc, _*_, _≤_, _<_}
 use native.Mathlib.Omega.{arith}
 use lib.Dec.{T}
 use lib.ListN.{length}
@@ -11,7 +9,7 @@ use Rattle.sets.specs.Lists.{count, upto, cross}
 use Rattle.sets.proofs.TestLaws.{T-ext}
 use Rattle.sets.proofs.ListLaws.{count-lt}
 use Rattle.sets.proofs.MemberLaws.{count-out, count-agree, members-count}
-use Rattle.graphs.specs.Graph.{Graph, live, vertices, to, gap, missing}
+use Rattle.graphs.specs.Graph.{Graph, live, vertices, gap, missing}
 use Rattle.graphs.specs.Good.{Live, Good, Chosen, Merged, Parted}
 use Rattle.graphs.proofs.PairLaws.{In-cross, length-cross, count-length}
 use Rattle.graphs.proofs.GraphLaws.{live-of, of-live, gap-chosen, chosen-gap, to-other}

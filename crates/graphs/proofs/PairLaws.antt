@@ -1,14 +1,14 @@
 -- Laws of the pairs below two numbers, of members, and the rules by which `search` takes a test apart (`out`) and puts one together (`in-to`).
 -- Assumes nothing.
 use mathlib.Core.Path.{_≡_, refl}
-use mathlib.Core.Logic.{_⊎_, inl, inr, _≢_}
+use mathlib.Core.Logic.{inl, inr, _≢_}
 use mathlib.Core.Bool.{Bool, true, false, not, _&&_}
 use mathlib.Core.List.{List, [], _∷_, _++_}
 use Prim.Native.Nat.{ℕ, zero, suc, _*_, _≤_, _<_, zero-le}
 use native.Mathlib.Nat.{not-suc-le-zero}
 use native.Mathlib.Decide.{ℕ-discrete}
 use native.Mathlib.Omega.{arith}
-use lib.Dec.{T, eqb, ltb, eqb→eq, ltb→lt, lt→ltb, T-not, not-T}
+use lib.Dec.{T, eqb, eqb→eq, ltb→lt, lt→ltb, T-not, not-T}
 use lib.ListN.{length, length-append}
 use Rattle.sets.specs.Lists.{bit, In, NoDup, count, table, keep, members, cross}
 use Rattle.sets.proofs.TestLaws.{and-l, and-r, and-t, or-l, or-r, eqb-of}

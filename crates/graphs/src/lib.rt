@@ -135,7 +135,7 @@ pub fn separated(h: Node, u: usize, v: usize) -> Node
     r
 }
 
-// Is every two live vertices adjacent?
+// Are every two live vertices adjacent?
 pub fn is_complete(h: Node) -> bool
     requires { ⌜ Held h ⌝ }
     ensures { λ r. ⌜ r ≡ complete (h .n) (view h) ⌝ }

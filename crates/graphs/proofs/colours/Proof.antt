@@ -7,7 +7,7 @@ use native.Mathlib.Omega.{arith}
 use lib.ListN.{take}
 use Rattle.graphs.specs.Graph.{grouping}
 use Rattle.graphs.specs.Held.{view}
-use Rattle.graphs.proofs.ColourLaws.{Coloured, coloured-opens, coloured-joins, name-before}
+use Rattle.graphs.proofs.ColourLaws.{Coloured, coloured-opens, coloured-joins}
 use borrow.Author.Needs.{needs}
 use Rattle.graphs.proofs.colours.Statement.{statement}
 use Rattle.graphs.proofs.colours.Tie as tie
@@ -36,8 +36,8 @@ add-next c = search needs
 array-read-out : tie.Need-array-read-out Inv-loop μ-loop
 array-read-out c =
     let a = c .before .before .before .before in
-    let l = c .before .before .loop in
-    omega (arith, name-before (a .args .h) (a .pre) (l .out) (l .next) (l .i) (c .before .loop-test .taken) (l .inv .1) (c .if1 .left), a .pre .few)
+    let t = c .before .loop-test .taken in
+    omega (arith, a .pre .good .smallest (c .before .before .loop .i) t, a .pre .few)
 
 array-write-out-2 : tie.Need-array-write-out-2 Inv-loop μ-loop
 array-write-out-2 c = search needs

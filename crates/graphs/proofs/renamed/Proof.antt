@@ -2,7 +2,6 @@
 use mathlib.Core.Path.{sym, ap}
 use mathlib.Core.Bool.{Bool, cond}
 use borrow.Author.Tests.{eq-eqb, ne-eqb}
-use borrow.Author.Needs.{needs}
 use Rattle.graphs.proofs.renamed.Statement.{statement}
 use Rattle.graphs.proofs.renamed.Tie as tie
 
