@@ -21,7 +21,7 @@ use Rattle.graphs.specs.declared.Node.{Node}
 use Rattle.graphs.specs.declared.Lead.{Lead}
 use Rattle.graphs.proofs.GraphLaws.{gap-chosen, of-live}
 use Rattle.graphs.proofs.LoopLaws.{Rest, rest-all, rest-next, rest-after, over-next, over-none, members-narrow, count-narrow}
-use Rattle.graphs.proofs.HeldLaws.{live-below}
+use Rattle.graphs.proofs.HeldLaws.{held-beyond, held-members}
 use Rattle.graphs.proofs.LeadLaws.{pairs, after, over-greatest, row-lead, cross-lead, Leads, leads-over}
 
 -- ---- one pair
@@ -124,22 +124,16 @@ over-agree f g [] h s = refl
 over-agree f g (x ∷ l) h s = ap (λ t. over f t l) (h x (inl refl) s) ∙ over-agree f g l (λ y i. h y (inr i)) (g s x)
 
 module _ (h : Node) (k : Held h) where
-  beyond : (x : ℕ) → h .n ≤ x → ¬ T (has (h .live) x)
-  beyond x b t = let c = live-below h k x t in let z : ⊥ = omega arith in z
-
   sharing-common : sharing (h .rows) (h .live) ≡ common (h .n) (view h)
   sharing-common =
       fun-ext (λ p. count-narrow (λ w. view h .adj (p .0) w && view h .adj (p .1) w) (h .n) 64 (k .few)
-      (λ w b t. beyond w b (and-l (has (h .live) w) (has (getD (h .rows) (p .0) zero) w)
+      (λ w b t. held-beyond h k w b (and-l (has (h .live) w) (has (getD (h .rows) (p .0) zero) w)
       (and-r (has (h .live) (p .0)) (has (h .live) w && has (getD (h .rows) (p .0) zero) w) (and-l (view h .adj (p .0) w) (view h .adj (p .1) w) t)))))
-
-  live-members : members (has (h .live)) 64 ≡ members (live (h .n) (view h)) (h .n)
-  live-members = members-narrow (has (h .live)) (h .n) 64 (k .few) beyond ∙ members-agree (h .n) (has (h .live)) (live (h .n) (view h)) (λ x b. k .lives x)
 
   row-gaps : (x : ℕ) → T (has (h .live) x) → members (λ y. open? (h .rows) (h .live) (x, y)) 64 ≡ members (λ y. gap (h .n) (view h) (x, y)) (h .n)
   row-gaps x t =
       members-narrow (λ y. open? (h .rows) (h .live) (x, y)) (h .n) 64 (k .few)
-      (λ y b s. beyond y b (and-l (has (h .live) y) (ltb x y) (and-l (has (h .live) y && ltb x y) (not (has (getD (h .rows) x zero) y && has (h .live) y)) s)))
+      (λ y b s. held-beyond h k y b (and-l (has (h .live) y) (ltb x y) (and-l (has (h .live) y && ltb x y) (not (has (getD (h .rows) x zero) y && has (h .live) y)) s)))
       ∙ members-agree (h .n) (λ y. open? (h .rows) (h .live) (x, y)) (λ y. gap (h .n) (view h) (x, y)) (λ y b. same y)
     where
       lx : has (h .live) x ≡ true
@@ -169,7 +163,7 @@ module _ (h : Node) (k : Held h) where
       ap (λ f. over (row-lead f (open? (h .rows) (h .live)) 64) none (members (has (h .live)) 64)) sharing-common
       ∙ over-agree (row-lead (common (h .n) (view h)) (open? (h .rows) (h .live)) 64) (row-lead (common (h .n) (view h)) (gap (h .n) (view h)) (h .n)) (members (has (h .live)) 64)
       (λ x i o. ap (λ vs. over (after (common (h .n) (view h))) o (pairs x vs)) (row-gaps x (In-members (has (h .live)) 64 x i .1))) none
-      ∙ ap (over (row-lead (common (h .n) (view h)) (gap (h .n) (view h)) (h .n)) none) live-members
+      ∙ ap (over (row-lead (common (h .n) (view h)) (gap (h .n) (view h)) (h .n)) none) (held-members h k)
       ∙ sym (cross-lead (common (h .n) (view h)) (gap (h .n) (view h)) (live (h .n) (view h)) (h .n) (h .n) no-row none)
       ∙ over-greatest (common (h .n) (view h)) none (select (gap (h .n) (view h)) (cross (h .n) (h .n)))
 

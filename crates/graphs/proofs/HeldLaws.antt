@@ -3,7 +3,7 @@ use mathlib.Core.Path.{_≡_, refl, sym, ap, ap₂, _∙_, subst}
 use mathlib.Core.Logic.{_≢_}
 use mathlib.Core.Bool.{Bool, true, false, not, _&&_, _||_, cond}
 use mathlib.Core.List.{List}
-use mathlib.Core.Option.{some}
+use mathlib.Core.Option.{none}
 use Prim.Native.Nat.{ℕ, zero, suc, _≤_, _<_}
 use native.Mathlib.Decide.{ℕ-discrete}
 use native.Mathlib.Omega.{arith}
@@ -11,22 +11,24 @@ use lib.Dec.{T, eqb, ltb, eqb→eq, ltb→lt}
 use lib.ListN.{length, getD, set}
 use lib.Seq.{getD-set-same, getD-set-other, lt-length-set}
 use borrow.Author.Tests.{eq-eqb, ne-eqb, lt-ltb}
-use Rattle.sets.specs.Lists.{count, upto}
+use Rattle.sets.specs.Lists.{count, upto, members}
 use Rattle.sets.specs.Set.{has, size, IsWith, IsWithout, IsJoin, IsMeet, IsBelow}
 use Rattle.sets.proofs.TestLaws.{T?, T→true, T→false, T-ext, eqb-same, and-true}
-use Rattle.sets.proofs.MemberLaws.{count-agree, members-count}
+use Rattle.sets.proofs.MemberLaws.{count-agree, members-count, members-agree}
 use Rattle.clashes.specs.Divisions.{groups}
 use Rattle.clashes.specs.Matrix.{matrix, Valid, Sound}
 use Rattle.graphs.specs.Graph.{Graph, live, vertices, merge, separate, pair, missing, grouping, graph}
 use Rattle.graphs.specs.Good.{Live, Good, Merged, Parted}
-use Rattle.graphs.specs.Held.{Held, view}
+use Rattle.graphs.specs.Held.{Held, view, choiceOf}
 use Rattle.graphs.specs.Acts.{IsRoot, AtPair, Becomes, Linked, Renamed}
 use Rattle.graphs.specs.declared.Node.{Node}
+use Rattle.graphs.specs.declared.Choice.{Choice}
+use Rattle.graphs.specs.declared.Choice.the-variants.{Complete, Split}
 use Rattle.graphs.proofs.GraphLaws.{graph-ext, live-of, of-live, to-other, pair-chosen}
 use Rattle.graphs.proofs.SplitLaws.{merge-is, separate-is, good-merged, good-parted, good-graph, merged-live, live-merged, graph-live, chosen-differ}
 use Rattle.graphs.proofs.MeasureLaws.{merged-count, merged-fewer, parted-count, parted-fewer}
 use Rattle.graphs.proofs.GroupingLaws.{grouping-groups}
-use Rattle.graphs.proofs.LoopLaws.{count-narrow}
+use Rattle.graphs.proofs.LoopLaws.{members-narrow, count-narrow}
 
 eqb-turn : (m k : ℕ) → eqb m k ≡ eqb k m
 eqb-turn m k = go (ℕ-discrete m k)
@@ -55,12 +57,19 @@ module _ (h : Node) (k : Held h) where
   pub live-below : (x : ℕ) → T (has (h .live) x) → x < h .n
   live-below x t = held-live x t .below
 
+  pub held-beyond : (x : ℕ) → h .n ≤ x → ¬ T (has (h .live) x)
+  held-beyond x b t = let c = live-below x t in let z : ⊥ = omega arith in z
+
+  -- the members of the live set are the graph's vertices
+  pub held-members : members (has (h .live)) 64 ≡ vertices (h .n) (view h)
+  held-members = members-narrow (has (h .live)) (h .n) 64 (k .few) held-beyond ∙ members-agree (h .n) (has (h .live)) (live (h .n) (view h)) (λ x b. k .lives x)
+
 -- ---- how many live vertices and groups a held node has
 
 module _ (h : Node) (k : Held h) where
   pub held-count : size 64 (h .live) ≡ count (live (h .n) (view h)) (upto (h .n))
   held-count =
-      count-narrow (has (h .live)) (h .n) 64 (k .few) (λ x b t. let c = live-below h k x t in let z : ⊥ = omega arith in z)
+      count-narrow (has (h .live)) (h .n) 64 (k .few) (held-beyond h k)
       ∙ count-agree (h .n) (has (h .live)) (live (h .n) (view h)) (λ x b. k .lives x)
 
   pub held-vertices : size 64 (h .live) ≡ length (vertices (h .n) (view h))
@@ -69,9 +78,12 @@ module _ (h : Node) (k : Held h) where
   pub held-groups : groups 0 (grouping (h .n) (view h)) ≡ size 64 (h .live)
   held-groups = grouping-groups (h .n) (view h) (k .good) ∙ sym held-vertices
 
-  -- a choice that is a pair is one that may be merged or separated; one that is none is a complete graph
-  pub choice-pair : (u v : ℕ) → some (u, v) ≡ pair (h .n) (view h) → AtPair h u v
-  choice-pair u v e = record { held = k; chosen = pair-chosen (h .n) (view h) u v (k .good) (sym e) }
+  -- what the choice of the graph's pair says: the two may be merged or separated, or there is no pair
+  pub choice-pair : (c : Choice) (u v : ℕ) → c ≡ Split u v → choiceOf c ≡ pair (h .n) (view h) → AtPair h u v
+  choice-pair c u v s e = record { held = k; chosen = pair-chosen (h .n) (view h) u v (k .good) (sym e ∙ ap choiceOf s) }
+
+  pub choice-none : (c : Choice) → c ≡ Complete → choiceOf c ≡ pair (h .n) (view h) → pair (h .n) (view h) ≡ none
+  choice-none c s e = sym e ∙ ap choiceOf s
 
 -- ---- what falls
 
