@@ -13,10 +13,11 @@ use lib.Seq.{getD-set-same, getD-set-other, lt-length-set}
 use borrow.Author.Tests.{eq-eqb, ne-eqb, lt-ltb}
 use Rattle.sets.specs.Lists.{count, upto, members}
 use Rattle.sets.specs.Set.{has, size, IsWith, IsWithout, IsJoin, IsMeet, IsBelow}
-use Rattle.sets.proofs.TestLaws.{T?, T→true, T→false, T-ext, eqb-same, and-true}
+use Rattle.sets.proofs.TestLaws.{T→true, T→false, T-ext, eqb-same, and-true}
 use Rattle.sets.proofs.MemberLaws.{count-agree, members-count, members-agree}
 use Rattle.clashes.specs.Divisions.{groups}
-use Rattle.clashes.specs.Matrix.{matrix, Valid, Sound}
+use Rattle.clashes.specs.Matrix.{matrix, Sound}
+use Rattle.clashes.proofs.MatrixLaws.{sound-valid}
 use Rattle.graphs.specs.Graph.{Graph, live, vertices, merge, separate, pair, missing, grouping, graph}
 use Rattle.graphs.specs.Good.{Live, Good, Merged, Parted}
 use Rattle.graphs.specs.Held.{Held, view, choiceOf}
@@ -111,13 +112,6 @@ module _ (h r : Node) (u v : ℕ) (p : AtPair h u v) where
       (parted-fewer (h .n) (view h) (separate u v (view h)) u v (p .held .good) (p .chosen) (separate-is (h .n) (view h) u v (p .held .good) (p .chosen)))
 
 -- ---- the root
-
-pub sound-valid : (rows : List ℕ) → Sound rows → Valid (length rows) (matrix rows)
-sound-valid rows s = record { no-self = s .apart .no-itself; both-ways = λ x y a b t. back x y a b t (T? (matrix rows y x)) }
-  where
-    back : (x y : ℕ) → x < length rows → y < length rows → T (matrix rows x y) → Dec (T (matrix rows y x)) → T (matrix rows y x)
-    back x y a b t (yes r) = r
-    back x y a b t (no q) = absurd (s .no-one-sided x a (y, b, t, q))
 
 module _ (rows : List ℕ) (r : Node) (s : Sound rows) (e : r .n ≡ length rows) (below : IsBelow (length rows) (r .live))
     (held : (x : ℕ) → getD (r .rows) x zero ≡ cond (ltb x (length rows)) (getD rows x zero) zero)
