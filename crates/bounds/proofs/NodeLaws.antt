@@ -1,0 +1,50 @@
+-- Laws of the two bounds at a held node: what the counts and climbs in words say of them. Assumes nothing.
+use mathlib.Core.Path.{_≡_, sym, ap, _∙_}
+use mathlib.Core.Bool.{false}
+use Prim.Native.Nat.{ℕ, _≤_, _<_}
+use native.Mathlib.Nat.{le-trans, le-of-eq}
+use native.Mathlib.Decide.{decLt}
+use native.Mathlib.Omega.{arith}
+use lib.Dec.{leb}
+use lib.ListN.{length}
+use borrow.Author.Tests.{le-leb, lt-leb}
+use Rattle.sets.specs.Set.{size}
+use Rattle.graphs.specs.Graph.{Graph, vertices}
+use Rattle.graphs.specs.Held.{view, Held}
+use Rattle.graphs.specs.declared.Node.{Node}
+use Rattle.graphs.proofs.HeldLaws.{held-vertices}
+use Rattle.cliques.specs.Clique.{clique}
+use Rattle.cliques.specs.Growth.{IsSetOf}
+use Rattle.cliques.proofs.CliqueLaws as cliques
+use Rattle.cliques.proofs.WordLaws.{size-length, size-few}
+use Rattle.mycielski.specs.Rounds
+use Rattle.mycielski.specs.Words.{Climbs}
+use Rattle.bounds.specs.Names.{cliqueBound, mycielskian, clique-is, mycielskian-is}
+use Rattle.bounds.proofs.BoundLaws.{mycielskian-vertices}
+
+module _ (h : Node) (k : Held h) where
+  abbrev g : Graph
+  g = view h
+
+  abbrev n : ℕ
+  n = h .n
+
+  pub clique-size : (w : ℕ) → IsSetOf (clique n g) w → size 64 w ≡ cliqueBound n g
+  clique-size w q = size-length n g (clique n g) w (k .few) (cliques.clique-is n g (k .good)) q ∙ sym (clique-is n g)
+
+  -- no bound is above the number of live vertices
+  most : mycielskian n g ≤ size 64 (h .live)
+  most = le-trans (mycielskian-vertices n g (k .good)) (le-of-eq (sym (held-vertices h k)))
+
+  pub climbs-whole : (r : ℕ) → Climbs (Rounds.mycielskian n g) 65 r → r ≡ mycielskian n g
+  climbs-whole r c = c .whole (omega (arith, c .most, mycielskian-is n g, most, size-few (h .live))) ∙ sym (mycielskian-is n g)
+
+  pub climbs-reach : (best r : ℕ) → Climbs (Rounds.mycielskian n g) best r → leb best r ≡ leb best (mycielskian n g)
+  climbs-reach best r c = go (decLt r best)
+    where
+      go : Dec (r < best) → leb best r ≡ leb best (mycielskian n g)
+      go (yes l) = ap (leb best) (c .whole l ∙ sym (mycielskian-is n g))
+      go (no l) = le-leb best r (omega arith) ∙ sym (le-leb best (mycielskian n g) (omega (arith, c .most, mycielskian-is n g)))
+
+  pub few-reach : (best : ℕ) → size 64 (h .live) < best → false ≡ leb best (mycielskian n g)
+  few-reach best l = sym (lt-leb best (mycielskian n g) (omega (arith, most)))

@@ -1,0 +1,3 @@
+-- The two bounds by name, and what is answered of a lent matrix.
+pub mod Names
+pub mod Lent

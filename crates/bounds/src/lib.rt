@@ -1,0 +1,75 @@
+// The two bounds of document 01, at a node and on a lent matrix. The crates above see their names and laws, not their definitions.
+use clashes::Verdict;
+use clashes::validity;
+use cliques::clique;
+use graphs::Node;
+use graphs::root;
+use mycielski::bound_up_to;
+use sets::size;
+ghost use mathlib.Core.Path.{_≡_};
+ghost use lib.Dec.{leb};
+ghost use Rattle.graphs.specs.Held.{view, Held};
+ghost use Rattle.bounds.specs.Names.{cliqueBound, mycielskian};
+ghost use Rattle.bounds.specs.Lent.{Answers};
+
+// A bound of a lent matrix, or document 01's refusals 1 to 4 with the lowest row at fault.
+pub enum Bound {
+    At(usize),
+    Many,
+    Stray(usize),
+    Itself(usize),
+    OneSided(usize),
+}
+
+// The clique bound of a node.
+pub fn clique_at(h: Node) -> usize
+    requires { ⌜ Held h ⌝ }
+    ensures { λ r. ⌜ r ≡ cliqueBound (h .n) (view h) ⌝ }
+{
+    size(clique(h))
+}
+
+// The Mycielskian bound of a node: none is above 64.
+pub fn mycielskian_at(h: Node) -> usize
+    requires { ⌜ Held h ⌝ }
+    ensures { λ r. ⌜ r ≡ mycielskian (h .n) (view h) ⌝ }
+{
+    bound_up_to(h, 65)
+}
+
+// Is the Mycielskian bound of a node not below `best`? It ends as soon as that is known: a node with fewer vertices than `best` needs no clique.
+pub fn reaches(h: Node, best: usize) -> bool
+    requires { ⌜ Held h ⌝ }
+    ensures { λ r. ⌜ r ≡ leb best (mycielskian (h .n) (view h)) ⌝ }
+{
+    if size(h.live) < best {
+        return false;
+    }
+    best <= bound_up_to(h, best)
+}
+
+// The clique bound of a lent matrix.
+pub fn clique_bound(rows: &[u64]) -> Bound
+    ensures { λ r. ⌜ Answers cliqueBound (now (rows .entry)) r ⌝ }
+{
+    match validity(rows) {
+        Verdict::Valid => Bound::At(clique_at(root(rows))),
+        Verdict::Many => Bound::Many,
+        Verdict::Stray(row) => Bound::Stray(row),
+        Verdict::Itself(row) => Bound::Itself(row),
+        Verdict::OneSided(row) => Bound::OneSided(row),
+    }
+}
+
+// The Mycielskian bound of a lent matrix.
+pub fn mycielskian_bound(rows: &[u64]) -> Bound
+    ensures { λ r. ⌜ Answers mycielskian (now (rows .entry)) r ⌝ }
+{
+    match validity(rows) {
+        Verdict::Valid => Bound::At(mycielskian_at(root(rows))),
+        Verdict::Many => Bound::Many,
+        Verdict::Stray(row) => Bound::Stray(row),
+        Verdict::Itself(row) => Bound::Itself(row),
+        Verdict::OneSided(row) => Bound::OneSided(row),
+    }
+}

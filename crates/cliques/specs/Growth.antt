@@ -1,0 +1,49 @@
+-- How the clique is grown in words, a clique at a time.
+--
+--   IsSetOf c w       : the set w has c's members
+--   elements w        : the members of the set w, rising
+--   scan g c vs       : c grown along vs: each vertex in turn is added if it is admitted
+--   Grown n g c k     : k has c's members, and the live vertices that c admits
+--   Grows n g left c r: r is c grown by the members of left, lowest first
+--   Within s t        : each member of s is one of t
+--   after s p x       : x passes p and comes after s
+--   Reaches n g e w   : w is the set of the clique, or of another as large as e asks, and no larger than it
+--
+-- Assumes nothing.
+use mathlib.Core.Path.{_≡_}
+use mathlib.Core.Logic.{_⊎_}
+use mathlib.Core.Bool.{Bool, _&&_}
+use mathlib.Core.List.{List}
+use Prim.Native.Nat.{ℕ, _≤_}
+use lib.Dec.{T, ltb}
+use lib.ListN.{length}
+use Rattle.sets.specs.Lists.{members, over}
+use Rattle.sets.specs.Set.{has, size}
+use Rattle.graphs.specs.Graph.{Graph, live}
+use Rattle.cliques.specs.Clique.{isIn, admits, joined, clique}
+use Rattle.cliques.specs.declared.Growth.{Growth}
+
+abbrev pub IsSetOf : List ℕ → ℕ → Type 0
+IsSetOf c w = (x : ℕ) → has w x ≡ isIn x c
+
+unfoldable pub elements : ℕ → List ℕ
+elements w = members (has w) 64
+
+abbrev pub scan : Graph → List ℕ → List ℕ → List ℕ
+scan g c vs = over (joined g) c vs
+
+pub record Grown (n : ℕ) (g : Graph) (c : List ℕ) (k : Growth) : Type 0 where
+  pub members : IsSetOf c (k .set)
+  pub near : (x : ℕ) → has (k .near) x ≡ (live n g x && admits g c x)
+
+abbrev pub Grows : ℕ → Graph → ℕ → Growth → Growth → Type 0
+Grows n g left c r = (l : List ℕ) → Grown n g l c → Grown n g (scan g l (elements left)) r
+
+abbrev pub Within : ℕ → ℕ → Type 0
+Within s t = (x : ℕ) → T (has s x) → T (has t x)
+
+abbrev pub after : ℕ → (ℕ → Bool) → ℕ → Bool
+after s p x = p x && ltb s x
+
+abbrev pub Reaches : ℕ → Graph → ℕ → ℕ → Type 0
+Reaches n g e w = IsSetOf (clique n g) w ⊎ ((e ≤ size 64 w) × (size 64 w ≤ length (clique n g)))

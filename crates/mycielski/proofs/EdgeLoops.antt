@@ -1,0 +1,139 @@
+-- Edges in words: those of a clique, and those between one vertex and a set, laid over the members of a set, lowest first. Assumes nothing.
+use mathlib.Core.Path.{_≡_, refl, sym, ap, ap₂, _∙_, subst}
+use mathlib.Core.Logic.{_≢_}
+use mathlib.Core.Bool.{Bool, true, false, not, _&&_, _||_}
+use mathlib.Core.List.{List}
+use Prim.Native.Nat.{ℕ, zero, _≤_, _<_}
+use native.Mathlib.Decide.{ℕ-discrete, decLt}
+use native.Mathlib.Omega.{arith}
+use lib.Dec.{T, eqb}
+use lib.ListN.{length, getD, set, replicate, length-set, length-replicate, getD-replicate, List·getD-eq-default}
+use lib.Seq.{getD-set-same, getD-set-other}
+use borrow.Author.Tests.{eq-eqb, ne-eqb}
+use Rattle.sets.specs.Set.{has, IsWith, IsWithout, IsJoin, IsLowest}
+use Rattle.sets.proofs.TestLaws.{T→true}
+use Rattle.sets.proofs.SetLaws.{has-none}
+use Rattle.cliques.specs.Growth.{Within}
+use Rattle.cliques.proofs.WordLaws.{eqb-turn}
+use Rattle.mycielski.specs.Rounds.{Part, whole}
+use Rattle.mycielski.specs.Words.{partOf, Ties}
+use Rattle.mycielski.specs.declared.Sub.{Sub}
+use Rattle.mycielski.proofs.DoneLaws.{done, done-none, done-all, within-again, done-more}
+
+-- two parts with the same vertices and edges are equal
+pub part-ext : (p q : Part) → ((x : ℕ) → p .vert x ≡ q .vert x) → ((x y : ℕ) → p .edge x y ≡ q .edge x y) → p ≡ q
+part-ext p q a b = λ i. record { vert = λ x. a x i; edge = λ x y. b x y i }
+
+-- the element at x after a store at v
+getD-set : (l : List ℕ) (v a x : ℕ) → v < length l → (P : ℕ → Type 0) → (v ≡ x → P a) → (v ≢ x → P (getD l x zero)) → P (getD (set l v a) x zero)
+getD-set l v a x b P f g = go (ℕ-discrete v x)
+  where
+    go : Dec (v ≡ x) → P (getD (set l v a) x zero)
+    go (yes e) = subst P (sym (ap (λ (z : ℕ). getD (set l v a) z zero) (sym e) ∙ getD-set-same l v a zero b)) (f e)
+    go (no d) = subst P (sym (getD-set-other l v x a zero (λ e. d (sym e)))) (g d)
+
+-- ---- the clique's edges
+
+pub record Whole (c : ℕ) (near : List ℕ) (left : ℕ) : Type 0 where
+  pub wide : length near ≡ 64
+  pub within : Within left c
+  pub is : (x y : ℕ) → has (getD near x zero) y ≡ (done c left x && (has c y && not (eqb x y)))
+
+pub whole-start : (c : ℕ) → Whole c (replicate 64 0) c
+whole-start c = record {
+  wide = length-replicate 64 zero;
+  within = λ x t. t;
+  is = λ x y. ap (λ (s : ℕ). has s y) (zeros x (decLt x 64)) ∙ has-none y ∙ sym (ap (λ (b : Bool). b && (has c y && not (eqb x y))) (done-none c x));
+}
+  where
+    zeros : (x : ℕ) → Dec (x < 64) → getD (replicate 64 0) x zero ≡ 0
+    zeros x (yes b) = getD-replicate 64 x 0 0 b
+    zeros x (no b) = List·getD-eq-default (replicate 64 0) 0 (let z : length (replicate 64 zero) ≤ x = omega (arith, length-replicate 64 zero) in z)
+
+pub whole-again : (c : ℕ) (near : List ℕ) (left v out left′ : ℕ) → Whole c near left → IsLowest 64 left v → IsWithout c v out → IsWithout left v left′
+    → Whole c (set near v out) left′
+whole-again c near left v out left′ i w q o = record {
+  wide = length-set near v out ∙ i .wide;
+  within = within-again c left v left′ (i .within) w o;
+  is = λ x y.
+      getD-set near v out x (omega (arith, i .wide, w .below)) (λ s. has s y ≡ (done c left′ x && (has c y && not (eqb x y))))
+      (λ e. q y ∙ ap (λ (z : ℕ). has c y && not (eqb z y)) e
+      ∙ sym (ap (λ (b : Bool). b && (has c y && not (eqb x y))) (done-more c left v left′ (i .within) w o x ∙ ap (λ (b : Bool). done c left x || b) (eq-eqb v x e) ∙ or-true (done c left x))))
+      (λ d. i .is x y
+      ∙ sym (ap (λ (b : Bool). b && (has c y && not (eqb x y))) (done-more c left v left′ (i .within) w o x ∙ ap (λ (b : Bool). done c left x || b) (ne-eqb v x d) ∙ or-false (done c left x))));
+}
+  where
+    or-true : (a : Bool) → (a || true) ≡ true
+    or-true true = refl
+    or-true false = refl
+
+    or-false : (a : Bool) → (a || false) ≡ a
+    or-false true = refl
+    or-false false = refl
+
+pub whole-end : (c : ℕ) (near : List ℕ) → Whole c near 0 → partOf (record { set = c; near = near }) ≡ whole (has c)
+whole-end c near i =
+    part-ext (partOf (record { set = c; near = near })) (whole (has c)) (λ x. refl)
+    (λ x y. i .is x y ∙ ap (λ (q : ℕ → Bool). q x && (has c y && not (eqb x y))) (done-all c))
+
+-- ---- edges between u and each of ys
+
+pub record Tying (u ys : ℕ) (r₀ r : List ℕ) (left : ℕ) : Type 0 where
+  pub wide : length r ≡ 64
+  pub within : Within left ys
+  pub is : (x y : ℕ) → has (getD r x zero) y ≡ (has (getD r₀ x zero) y || (eqb y u && done ys left x))
+
+pub tying-start : (u ys : ℕ) (r : List ℕ) → length r ≡ 64 → Tying u ys r r ys
+tying-start u ys r l = record {
+  wide = l;
+  within = λ x t. t;
+  is = λ x y. sym (ap (λ (b : Bool). has (getD r x zero) y || (eqb y u && b)) (done-none ys x) ∙ nothing (has (getD r x zero) y) (eqb y u));
+}
+  where
+    nothing : (a b : Bool) → (a || (b && false)) ≡ a
+    nothing true b = refl
+    nothing false true = refl
+    nothing false false = refl
+
+pub tying-again : (u ys : ℕ) (r₀ r : List ℕ) (left v s left′ : ℕ) → Tying u ys r₀ r left → IsLowest 64 left v → IsWith (getD r v zero) u s → IsWithout left v left′
+    → Tying u ys r₀ (set r v s) left′
+tying-again u ys r₀ r left v s left′ i w q o = record {
+  wide = length-set r v s ∙ i .wide;
+  within = within-again ys left v left′ (i .within) w o;
+  is = λ x y.
+      getD-set r v s x (omega (arith, i .wide, w .below)) (λ t. has t y ≡ (has (getD r₀ x zero) y || (eqb y u && done ys left′ x)))
+      (λ e. q y ∙ ap₂ (λ (a b : Bool). a || b) (ap (λ (z : ℕ). has (getD r z zero) y) e ∙ i .is x y) (eqb-turn u y)
+      ∙ here (has (getD r₀ x zero) y) (eqb y u) (done ys left x)
+      ∙ sym (ap (λ (b : Bool). has (getD r₀ x zero) y || (eqb y u && b)) (done-more ys left v left′ (i .within) w o x ∙ ap (λ (b : Bool). done ys left x || b) (eq-eqb v x e))))
+      (λ d. i .is x y
+      ∙ ap (λ (b : Bool). has (getD r₀ x zero) y || (eqb y u && b))
+      (sym (done-more ys left v left′ (i .within) w o x ∙ ap (λ (b : Bool). done ys left x || b) (ne-eqb v x d) ∙ or-false (done ys left x))));
+}
+  where
+    or-false : (a : Bool) → (a || false) ≡ a
+    or-false true = refl
+    or-false false = refl
+
+    here : (a b c : Bool) → ((a || (b && c)) || b) ≡ (a || (b && (c || true)))
+    here true b c = refl
+    here false true true = refl
+    here false true false = refl
+    here false false c = refl
+
+pub tying-end : (near : List ℕ) (u ys s : ℕ) (r : List ℕ) → u < length near → IsJoin (getD near u zero) ys s → Tying u ys (set near u s) r 0 → Ties near u ys r
+tying-end near u ys s r b j i x y =
+    i .is x y
+    ∙ ap₂ (λ (a c : Bool). a || (eqb y u && c))
+    (getD-set near u s x b (λ t. has t y ≡ (has (getD near x zero) y || (eqb x u && has ys y)))
+    (λ e. j y ∙ ap₂ (λ (a c : Bool). a || (c && has ys y)) (ap (λ (z : ℕ). has (getD near z zero) y) e) (sym (eq-eqb x u (sym e))))
+    (λ d. sym (ap (λ (c : Bool). has (getD near x zero) y || (c && has ys y)) (ne-eqb x u (λ e. d (sym e))) ∙ or-false (has (getD near x zero) y))))
+    (ap (λ (q : ℕ → Bool). q x) (done-all ys))
+    ∙ sym (assoc (has (getD near x zero) y) (eqb x u && has ys y) (eqb y u && has ys x))
+  where
+    or-false : (a : Bool) → (a || false) ≡ a
+    or-false true = refl
+    or-false false = refl
+
+    assoc : (a b c : Bool) → (a || (b || c)) ≡ ((a || b) || c)
+    assoc true b c = refl
+    assoc false b c = refl

@@ -1,0 +1,8 @@
+-- The laws: why a round's bound is one, of the rounds, of tests with one number more, of H in words, of a round in words.
+pub mod Recolouring
+pub mod RoundLaws
+mod DoneLaws
+mod SetLoops
+mod EdgeLoops
+mod RoundLoops
+mod ClimbLaws

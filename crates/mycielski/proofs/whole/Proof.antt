@@ -1,0 +1,66 @@
+-- `mycielski::whole` meets its contract. The loop's invariant: the edges of what is done are laid. The measure: what is left. Assumes nothing.
+use mathlib.Core.Path.{_≡_, refl, subst}
+use native.Mathlib.Omega.{arith}
+use borrow.Author.Needs.{needs}
+use Rattle.sets.specs.Set.{size}
+use Rattle.mycielski.proofs.DoneLaws.{left-less}
+use Rattle.mycielski.proofs.EdgeLoops.{Whole, whole-start, whole-again, whole-end}
+use Rattle.mycielski.proofs.whole.Statement.{statement}
+use Rattle.mycielski.proofs.whole.Tie as tie
+
+abbrev Inv-loop : tie.InvT-loop
+Inv-loop c near₀ left₀ near left = Whole c near left
+
+abbrev μ-loop : tie.MeasureT-loop
+μ-loop c near₀ left₀ near left = size 64 left
+
+loop-holds : tie.Need-loop-holds Inv-loop μ-loop
+loop-holds c = whole-start (c .args .c)
+
+lowest-requires : tie.Need-lowest-requires Inv-loop μ-loop
+lowest-requires c κs = search needs
+
+without-requires : tie.Need-without-requires Inv-loop μ-loop
+without-requires c κs = search needs
+
+mul-near : tie.Need-mul-near Inv-loop μ-loop
+mul-near c = search needs
+
+array-write-near : tie.Need-array-write-near Inv-loop μ-loop
+array-write-near c = search needs
+
+without-requires-2 : tie.Need-without-requires-2 Inv-loop μ-loop
+without-requires-2 c κs = search needs
+
+loop-less : tie.Need-loop-less Inv-loop μ-loop
+loop-less c =
+    let b = c .before .before .before .before in
+    left-less (b .before .args .c) (b .loop .left) (c .before .before .lowest .result) (c .without2 .result) (b .loop .inv .within) (c .before .before .lowest .ensures)
+    (c .without2 .ensures)
+
+loop-again : tie.Need-loop-again Inv-loop μ-loop
+loop-again c =
+    let b = c .before .before .before .before in
+    whole-again (b .before .args .c) (b .loop .near) (b .loop .left) (c .before .before .lowest .result) (c .before .without .result) (c .without2 .result)
+    (b .loop .inv) (c .before .before .lowest .ensures) (c .before .without .ensures) (c .without2 .ensures)
+
+returns : tie.Need-returns Inv-loop μ-loop
+returns c =
+    let a = c .before .before in
+    whole-end (a .args .c) (c .before .loop .near) (subst (λ l. Whole (a .args .c) (c .before .loop .near) l) (c .loop-test .left) (c .before .loop .inv))
+
+pub whole-spec : {M : Type 1} → statement M
+whole-spec =
+    tie.close
+    (tie.spec
+    Inv-loop
+    μ-loop
+    loop-holds
+    lowest-requires
+    without-requires
+    mul-near
+    array-write-near
+    without-requires-2
+    loop-less
+    loop-again
+    returns)
