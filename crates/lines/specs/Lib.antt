@@ -1,0 +1,5 @@
+pub mod Text
+pub mod Part
+pub mod Number
+pub mod Words
+pub mod Numeral

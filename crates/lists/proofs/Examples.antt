@@ -1,0 +1,63 @@
+-- Document 01's small texts, and one for each edge of its wording, by computation.
+use mathlib.Core.Path.{_≡_, refl}
+use mathlib.Core.List.{[], _∷_}
+use lib.ListN.{take}
+use Rattle.lines.specs.Numeral.{numeral}
+use Rattle.lists.specs.Read.{readOf}
+use Rattle.lists.specs.Edges.{edges}
+use Rattle.lists.specs.Write.{textOf}
+use Rattle.lists.specs.Promise.{readNumbers}
+use Rattle.lists.specs.declared.Reading.the-variants.{Read}
+
+-- the empty text is 11 at line 1
+empty-text : readNumbers (readOf ([]) 64 .answer) ≡ record { number = 11; place = 1; size = 0 }
+empty-text = refl
+
+-- "p edge 0 0" with its line feed is a list
+no-entries : readNumbers (readOf (112 ∷ 32 ∷ 101 ∷ 100 ∷ 103 ∷ 101 ∷ 32 ∷ 48 ∷ 32 ∷ 48 ∷ 10 ∷ []) 0 .answer) ≡ record { number = 0; place = 0; size = 0 }
+no-entries = refl
+
+-- a lone line feed is one empty line
+lone-feed : readNumbers (readOf (10 ∷ []) 64 .answer) ≡ record { number = 10; place = 1; size = 0 }
+lone-feed = refl
+
+-- the last line lacks its line feed
+unended-last : readNumbers (readOf (99 ∷ 32 ∷ 120 ∷ 10 ∷ 112 ∷ 32 ∷ 101 ∷ 100 ∷ 103 ∷ 101 ∷ 32 ∷ 49 ∷ 32 ∷ 48 ∷ []) 64 .answer) ≡ record { number = 10; place = 2; size = 0 }
+unended-last = refl
+
+-- a number with a leading zero
+leading-zero : readNumbers (readOf (112 ∷ 32 ∷ 101 ∷ 100 ∷ 103 ∷ 101 ∷ 32 ∷ 51 ∷ 32 ∷ 49 ∷ 10 ∷ 101 ∷ 32 ∷ 48 ∷ 49 ∷ 32 ∷ 51 ∷ 10 ∷ []) 64 .answer) ≡ record { number = 10; place = 2; size = 0 }
+leading-zero = refl
+
+-- eight digits; seven are a number, and then 65 entries are too many
+eight-digits : readNumbers (readOf (112 ∷ 32 ∷ 101 ∷ 100 ∷ 103 ∷ 101 ∷ 32 ∷ 51 ∷ 32 ∷ 48 ∷ 48 ∷ 48 ∷ 48 ∷ 48 ∷ 48 ∷ 48 ∷ 49 ∷ 10 ∷ []) 64 .answer) ≡ record { number = 10; place = 1; size = 0 }
+eight-digits = refl
+
+-- 65 entries
+sixty-five : readNumbers (readOf (112 ∷ 32 ∷ 101 ∷ 100 ∷ 103 ∷ 101 ∷ 32 ∷ 54 ∷ 53 ∷ 32 ∷ 48 ∷ 10 ∷ []) 64 .answer) ≡ record { number = 13; place = 1; size = 0 }
+sixty-five = refl
+
+-- fewer lent rows than n, found at the p line though a later line is faulty
+few-rows : readNumbers (readOf (112 ∷ 32 ∷ 101 ∷ 100 ∷ 103 ∷ 101 ∷ 32 ∷ 51 ∷ 32 ∷ 48 ∷ 10 ∷ 120 ∷ 10 ∷ []) 2 .answer) ≡ record { number = 17; place = 1; size = 0 }
+few-rows = refl
+
+-- 11 stands before 14
+headless-first : readNumbers (readOf (101 ∷ 32 ∷ 57 ∷ 32 ∷ 57 ∷ 10 ∷ []) 64 .answer) ≡ record { number = 11; place = 1; size = 0 }
+headless-first = refl
+
+-- one e line more than stated, found at the end
+too-many-edges : readNumbers (readOf (112 ∷ 32 ∷ 101 ∷ 100 ∷ 103 ∷ 101 ∷ 32 ∷ 51 ∷ 32 ∷ 49 ∷ 10 ∷ 101 ∷ 32 ∷ 49 ∷ 32 ∷ 51 ∷ 10 ∷ 101 ∷ 32 ∷ 51 ∷ 32 ∷ 49 ∷ 10 ∷ []) 64 .answer) ≡ record { number = 16; place = 4; size = 0 }
+too-many-edges = refl
+
+-- a repeated edge, either way round, is counted
+both-ways-round : readNumbers (readOf (112 ∷ 32 ∷ 101 ∷ 100 ∷ 103 ∷ 101 ∷ 32 ∷ 51 ∷ 32 ∷ 50 ∷ 10 ∷ 101 ∷ 32 ∷ 49 ∷ 32 ∷ 51 ∷ 10 ∷ 101 ∷ 32 ∷ 51 ∷ 32 ∷ 49 ∷ 10 ∷ []) 64 .answer) ≡ record { number = 0; place = 0; size = 3 }
+both-ways-round = refl
+
+-- document 01's five-cycle, read
+five-cycle : (readOf (112 ∷ 32 ∷ 101 ∷ 100 ∷ 103 ∷ 101 ∷ 32 ∷ 53 ∷ 32 ∷ 53 ∷ 10 ∷ 101 ∷ 32 ∷ 49 ∷ 32 ∷ 50 ∷ 10 ∷ 101 ∷ 32 ∷ 50 ∷ 32 ∷ 51 ∷ 10 ∷ 101 ∷ 32 ∷ 51 ∷ 32 ∷ 52 ∷ 10 ∷ 101 ∷ 32 ∷ 52 ∷ 32 ∷ 53 ∷ 10 ∷ 101 ∷ 32 ∷ 49 ∷ 32 ∷ 53 ∷ 10 ∷ []) 64 .answer ≡ Read 5) × (take 5 (readOf (112 ∷ 32 ∷ 101 ∷ 100 ∷ 103 ∷ 101 ∷ 32 ∷ 53 ∷ 32 ∷ 53 ∷ 10 ∷ 101 ∷ 32 ∷ 49 ∷ 32 ∷ 50 ∷ 10 ∷ 101 ∷ 32 ∷ 50 ∷ 32 ∷ 51 ∷ 10 ∷ 101 ∷ 32 ∷ 51 ∷ 32 ∷ 52 ∷ 10 ∷ 101 ∷ 32 ∷ 52 ∷ 32 ∷ 53 ∷ 10 ∷ 101 ∷ 32 ∷ 49 ∷ 32 ∷ 53 ∷ 10 ∷ []) 64 .rows) ≡ 18 ∷ 5 ∷ 10 ∷ 20 ∷ 9 ∷ [])
+five-cycle = (refl, refl)
+
+-- and written
+five-cycle-text : textOf (18 ∷ 5 ∷ 10 ∷ 20 ∷ 9 ∷ []) ≡ 112 ∷ 32 ∷ 101 ∷ 100 ∷ 103 ∷ 101 ∷ 32 ∷ 53 ∷ 32 ∷ 53 ∷ 10 ∷ 101 ∷ 32 ∷ 49 ∷ 32 ∷ 50 ∷ 10 ∷ 101 ∷ 32 ∷ 49 ∷ 32 ∷ 53 ∷ 10 ∷ 101 ∷ 32 ∷ 50 ∷ 32 ∷ 51 ∷ 10 ∷ 101 ∷ 32 ∷ 51 ∷ 32 ∷ 52 ∷ 10 ∷ 101 ∷ 32 ∷ 52 ∷ 32 ∷ 53 ∷ 10 ∷ []
+unfolding edges numeral
+five-cycle-text = refl

@@ -1,0 +1,13 @@
+pub mod Shapes
+pub mod Fold
+pub mod Copy
+pub mod Answers
+pub mod EdgeLaws
+pub mod Writes
+pub mod Marks
+pub mod EdgeMembers
+pub mod ReadBack
+pub mod ReadSound
+pub mod Calls
+mod Examples
+pub mod Unique

@@ -1,0 +1,5 @@
+pub mod Shape
+pub mod Read
+pub mod Edges
+pub mod Write
+pub mod Promise

@@ -1,0 +1,101 @@
+-- What reading a clash text gives: its lines are taken one by one, from what is known so far, until the first faulty one.
+--
+--   inside n u        : u is from 1 to n
+--   edgeOf h u v      : what "e U V" does after the p line
+--   stepOf h room s   : what a line of shape s does, where h is known: the first refusal that fits, or what is known then
+--   mark g i j        : the rows g, with bit j set in row i
+--   join g i j        : the rows g, with the edge between i and j, in both rows
+--   finish h g k      : what is found at the end of the text, where the next line would be line k
+--   readFrom t room k h g : the lines t, of which the first is line k, where h is known and g are the rows so far
+--   readOf s room     : the text s, read with so many rows lent: n and the rows, or the refusal and its line
+--   writtenOf f old   : what the lent rows hold afterwards: the first n are the list's, the others as they were
+--
+-- Assumes nothing.
+use Prim.Native.Nat.{ℕ, _+_, _-_, _^_}
+use mathlib.Core.List.{List, _++_}
+use mathlib.Core.Bool.{Bool, true, false, cond}
+use lib.ListN.{length, getD, set, take, drop, replicate}
+use lib.Dec.{leb, eqb}
+use lib.Bits.{bitOr}
+use Rattle.lines.specs.Text.{Text, done, unended, ended, linesOf}
+use Rattle.lists.specs.Shape.{shapeOf}
+use Rattle.lists.specs.declared.Shape.{Shape}
+use Rattle.lists.specs.declared.Shape.the-variants.{Comment, P, E, Bad}
+use Rattle.lists.specs.declared.Fault.{Fault}
+use Rattle.lists.specs.declared.Fault.the-variants.{Line, Headless, Second, Size, Room, Vertex, Loop, Count, Long}
+use Rattle.lists.specs.declared.Head.{Head}
+use Rattle.lists.specs.declared.Step.{Step}
+use Rattle.lists.specs.declared.Step.the-variants.{Stop, Go, Edge}
+use Rattle.lists.specs.declared.Reading.{Reading}
+use Rattle.lists.specs.declared.Reading.the-variants.{Read, Refused}
+use Rattle.lists.specs.declared.Found.{Found}
+
+-- no rows: what stands beside a refusal, and what reading starts from
+abbrev pub noRows : List ℕ
+noRows = replicate 64 0
+
+abbrev pub accepted : ℕ → List ℕ → Found
+accepted n g = record { answer = Read n; rows = g }
+
+abbrev pub refused : Fault → ℕ → Found
+refused f k = record { answer = Refused f k; rows = noRows }
+
+-- an end of an edge is from 1 to n
+abbrev pub inside : ℕ → ℕ → Bool
+inside n u = cond (leb 1 u) (leb u n) false
+
+-- an e line after the p line: 14, 15, or one edge more
+abbrev pub edgeOf : Head → ℕ → ℕ → Step
+edgeOf h u v =
+    cond (inside (h .n) u)
+    (cond (inside (h .n) v)
+    (cond (eqb u v) (Stop Loop) (Edge (record { seen = true; n = h .n; m = h .m; count = h .count + 1 }) (u - 1) (v - 1)))
+    (Stop Vertex))
+    (Stop Vertex)
+
+-- within a line the order is 10, 11, 12, 13, 17, 14, 15
+abbrev pub stepOf : Head → ℕ → Shape → Step
+stepOf h room Bad = Stop Line
+stepOf h room Comment = Go h
+stepOf h room (P n m) =
+    cond (h .seen) (Stop Second)
+    (cond (leb n 64)
+    (cond (leb n room) (Go (record { seen = true; n = n; m = m; count = 0 })) (Stop Room))
+    (Stop Size))
+stepOf h room (E u v) = cond (h .seen) (edgeOf h u v) (Stop Headless)
+
+abbrev pub mark : List ℕ → ℕ → ℕ → List ℕ
+mark g i j = set g i (bitOr (getD g i 0) (2 ^ j))
+
+-- the edge between i and j, in both rows
+abbrev pub join : List ℕ → ℕ → ℕ → List ℕ
+join g i j = mark (mark g i j) j i
+
+-- at the end of the text: 11, 16
+abbrev pub finish : Head → List ℕ → ℕ → Found
+finish h g k = cond (h .seen) (cond (eqb (h .count) (h .m)) (accepted (h .n) g) (refused Count k)) (refused Headless k)
+
+abbrev pub after : Step → List ℕ → ℕ → (Head → List ℕ → Found) → Found
+after (Stop f) g k next = refused f k
+after (Go h) g k next = next h g
+after (Edge h i j) g k next = next h (join g i j)
+
+abbrev pub readFrom : Text → ℕ → ℕ → Head → List ℕ → Found
+readFrom done room k h g = finish h g k
+readFrom (unended l) room k h g = refused Line k
+readFrom (ended l t) room k h g = after (stepOf h room (shapeOf l)) g k (readFrom t room (k + 1))
+
+-- before the first line
+abbrev pub start : Head
+start = record { seen = false; n = 0; m = 0; count = 0 }
+
+abbrev pub readOf : List ℕ → ℕ → Found
+readOf s room = cond (leb (length s) 65536) (readFrom (linesOf s) room 1 start noRows) (refused Long 0)
+
+-- what the lent rows hold afterwards
+abbrev pub written : Reading → List ℕ → List ℕ → List ℕ
+written (Read n) g old = take n g ++ drop n old
+written (Refused f k) g old = old
+
+abbrev pub writtenOf : Found → List ℕ → List ℕ
+writtenOf f old = written (f .answer) (f .rows) old

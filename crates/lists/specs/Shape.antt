@@ -1,0 +1,39 @@
+-- The meaning of a line of a clash text (document 01, "Texts").
+--
+--   shapeOf l : "c " and anything; "p edge N M"; "e U V"; or none of these
+--
+-- Assumes nothing.
+use Prim.Native.Nat.{ℕ}
+use mathlib.Core.List.{List, [], _∷_}
+use mathlib.Core.Bool.{cond}
+use lib.ListN.{drop}
+use Rattle.lines.specs.Words.{starts, pairOf}
+use Rattle.lines.specs.declared.Pair.{Pair}
+use Rattle.lines.specs.declared.Pair.the-variants.{Both, Neither}
+use Rattle.lists.specs.declared.Shape.{Shape}
+use Rattle.lists.specs.declared.Shape.the-variants.{Comment, P, E, Bad}
+
+-- the words that a line begins with, each with its space: "c ", "p edge ", "e "
+abbrev pub cWord : List ℕ
+cWord = 99 ∷ 32 ∷ []
+
+abbrev pub pWord : List ℕ
+pWord = 112 ∷ 32 ∷ 101 ∷ 100 ∷ 103 ∷ 101 ∷ 32 ∷ []
+
+abbrev pub eWord : List ℕ
+eWord = 101 ∷ 32 ∷ []
+
+abbrev pub asP : Pair → Shape
+asP (Both n m) = P n m
+asP Neither = Bad
+
+abbrev pub asE : Pair → Shape
+asE (Both u v) = E u v
+asE Neither = Bad
+
+abbrev pub shapeOf : List ℕ → Shape
+shapeOf l =
+    cond (starts cWord l) Comment
+    (cond (starts pWord l) (asP (pairOf (drop 7 l)))
+    (cond (starts eWord l) (asE (pairOf (drop 2 l)))
+    Bad))

@@ -1,0 +1,248 @@
+// Awkward clash texts from standard input, and what reading answers to each; each accepted list, and some matrices, written again.
+// Before each text stands a line "R B": how many rows are lent, and how many bytes the text has. What this writes is held to the file
+// stdout, which tests/awkward_texts.py makes from document 01 alone.
+use libc::STDIN_FILENO;
+use libc::STDOUT_FILENO;
+use lines::Pair;
+use lists::Fault;
+use lists::Reading;
+use lists::Written;
+ghost use mathlib.Core.Path.{_≡_};
+ghost use Prim.Native.Nat.{_≤_};
+ghost use lib.ListN.{length};
+ghost use Rattle.lists.specs.Promise.{numberOf};
+ghost use Rattle.trials_lists.specs.Case.{Within};
+
+// The next text: how many rows are lent, and where it starts and ends.
+enum Next {
+    Text(usize, usize, usize),
+    Over,
+}
+
+fn put(s: &[u8]) {
+    io::write_all(STDOUT_FILENO, s);
+}
+
+fn put_number(n: u64) {
+    io::print_decimal(STDOUT_FILENO, n);
+}
+
+// Bytes to lend, ample for any list's text.
+fn dots() -> [u8; 17000]
+    ensures { λ r. ⌜ 17000 ≡ length r ⌝ }
+{
+    [46; 17000]
+}
+
+// Rows to lend.
+fn sevens() -> [u64; 70]
+    ensures { λ r. ⌜ 70 ≡ length r ⌝ }
+{
+    [7; 70]
+}
+
+fn room_for_texts() -> [u8; 300000]
+    ensures { λ r. ⌜ 300000 ≡ length r ⌝ }
+{
+    [0; 300000]
+}
+
+// Document 01's number of a fault.
+fn number(why: Fault) -> u64
+    ensures { λ r. ⌜ r ≡ numberOf why ⌝ }
+{
+    match why {
+        Fault::Line => 10,
+        Fault::Headless => 11,
+        Fault::Second => 12,
+        Fault::Size => 13,
+        Fault::Vertex => 14,
+        Fault::Loop => 15,
+        Fault::Count => 16,
+        Fault::Room => 17,
+        Fault::Long => 18,
+    }
+}
+
+// Whether the lent rows from a place on are still the 7 that they were.
+fn put_kept_rows(rows: &[u64], from: usize) {
+    let mut i = from;
+    while i < rows.len() {
+        if rows[i] != 7 {
+            put(b"lost\n");
+            return;
+        }
+        i += 1;
+    }
+    put(b"kept\n");
+}
+
+// Whether the lent bytes from a place on are still the dots that they were.
+fn put_kept_bytes(out: &[u8], from: usize) {
+    let mut i = from;
+    while i < out.len() {
+        if out[i] != b'.' {
+            put(b"lost\n");
+            return;
+        }
+        i += 1;
+    }
+    put(b"kept\n");
+}
+
+fn put_rows(rows: &[u64]) {
+    let mut i: usize = 0;
+    while i < rows.len() {
+        put(b" ");
+        put_number(rows[i]);
+        i += 1;
+    }
+}
+
+fn put_refused(number: u64, row: usize, out: &[u8]) {
+    put(b"written ");
+    put_number(number);
+    put(b" row ");
+    put_number(row as u64);
+    put(b" ");
+    put_kept_bytes(out, 0);
+}
+
+// The text's length, and where it is asked for the text and what became of the bytes after it.
+fn put_text(out: &[u8], len: usize, show: bool)
+    requires { ⌜ len ≤ length (now out) ⌝ }
+{
+    put(b"written 0 length ");
+    put_number(len as u64);
+    put(b"\n");
+    if show {
+        put(&out[..len]);
+        put(b"rest ");
+        put_kept_bytes(out, len);
+    }
+}
+
+// Writes a list to the lent bytes, all dots, and answers the text's length, or 0.
+fn write(rows: &[u64], out: &mut [u8], show: bool) -> usize
+    ensures { λ r. ⌜ r ≤ length (now (out .entry)) ⌝ }
+{
+    match lists::write_list(rows, out) {
+        Written::Length(len) => {
+            put_text(out, len, show);
+            return len;
+        }
+        Written::Many => put_refused(1, 0, out),
+        Written::Stray(row) => put_refused(2, row, out),
+        Written::Itself(row) => put_refused(3, row, out),
+        Written::OneSided(row) => put_refused(4, row, out),
+        Written::Full => put_refused(19, 0, out),
+    }
+    0
+}
+
+// A list is written thrice: with ample room, with just enough, and with one byte less.
+fn written(rows: &[u64]) {
+    let mut ample = dots();
+    let len = write(rows, &mut ample, true);
+    if 0 < len {
+        let mut enough = dots();
+        write(rows, &mut enough[..len], false);
+        let less = len - 1;
+        let mut short = dots();
+        write(rows, &mut short[..less], false);
+    }
+}
+
+// The list's rows and what became of the rows after them; and the list, written.
+fn put_list(lent: &[u64], n: usize)
+    requires { ⌜ n ≤ length (now lent) ⌝ }
+{
+    put(b"0 entries ");
+    put_number(n as u64);
+    put(b" rows");
+    put_rows(&lent[..n]);
+    put(b" rest ");
+    put_kept_rows(lent, n);
+    written(&lent[..n]);
+}
+
+// Reads one text into the lent rows, all 7.
+fn trial(text: &[u8], lent: &mut [u64]) {
+    match lists::read_list(text, lent) {
+        Reading::Refused(why, line) => {
+            put_number(number(why));
+            put(b" line ");
+            put_number(line as u64);
+            put(b" ");
+            put_kept_rows(lent, 0);
+        }
+        Reading::Read(n) => {
+            put_list(lent, n);
+        }
+    }
+}
+
+// The text after the line "R B" that starts at `at`.
+fn find(file: &[u8], at: usize) -> Next
+    requires { ⌜ at ≤ length (now file) ⌝ }
+    ensures { λ r. ⌜ Within at (length (now (file .entry))) r ⌝ }
+{
+    let e = lines::line_end(file, at);
+    if file.len() <= e {
+        return Next::Over;
+    }
+    match lines::two(&file[at..e]) {
+        Pair::Neither => Next::Over,
+        Pair::Both(room, size) => {
+            if 70 < room {
+                return Next::Over;
+            }
+            if file.len() - (e + 1) < size {
+                return Next::Over;
+            }
+            Next::Text(room, e + 1, e + 1 + size)
+        }
+    }
+}
+
+// Each text of the file, with its number from 1.
+fn texts(file: &[u8]) {
+    let mut at: usize = 0;
+    let mut k: u64 = 1;
+    while at < file.len() {
+        match find(file, at) {
+            Next::Over => {
+                put(b"over\n");
+                return;
+            }
+            Next::Text(room, start, end) => {
+                put_number(k);
+                put(b" read ");
+                let mut lent = sevens();
+                trial(&file[start..end], &mut lent[..room]);
+                at = end;
+                k = std::num::wrapping_add_u64(k, 1);
+            }
+        }
+    }
+}
+
+fn main() {
+    let mut file = room_for_texts();
+    let len = io::read_full(STDIN_FILENO, &mut file);
+    texts(&file[..len]);
+    let none = [0u64; 0];
+    written(&none);
+    written(&[0]);
+    written(&[2, 1]);
+    written(&[18, 5, 10, 20, 9]);
+    written(&[2]);
+    written(&[1]);
+    written(&[2, 0]);
+    written(&[0, 1]);
+    let many = [0u64; 65];
+    written(&many);
+    written(&[4, 0, 1]);
+    written(&[6, 5, 3]);
+    written(&[0, 0, 4]);
+}
