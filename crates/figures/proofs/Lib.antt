@@ -1,0 +1,2 @@
+-- The figures hold.
+pub mod Figures

@@ -1,0 +1,105 @@
+-- Document 01, "Small lists and their figures": the starred rows, all in one table, and the test that a row passes.
+--
+--   Row            : a list, which walk takes it, its budget, the numbers of its answer, 2 P - 1 (0 where the paper gives none), and its colours
+--   bounded, spent, refused, plain : a row of each kind
+--   table          : the rows
+--   walkOf bound r : the described walk that takes r
+--   passes r       : the answer for r, computed, is the one in the table
+--   Holds r        : whoever promises as the walks do gives that answer, and writes those colours
+--
+-- `figures` of proofs/Figures.antt: every row of the table holds. Assumes nothing.
+use mathlib.Core.Path.{_≡_}
+use mathlib.Core.Logic.{_≢_}
+use mathlib.Core.Bool.{Bool, true, false, _&&_, cond}
+use mathlib.Core.List.{List, [], _∷_}
+use Prim.Native.Nat.{ℕ, zero, suc, _*_, _≤_}
+use lib.Dec.{eqb}
+use lib.ListN.{length, take}
+use Rattle.sets.specs.Lists.{table as listOf}
+use Rattle.clashes.specs.Matrix.{matrix}
+use Rattle.clashes.specs.Divisions.{freeDivisions}
+use Rattle.graphs.specs.Graph.{Graph}
+use Rattle.mycielski.specs.Rounds as rounds
+use Rattle.bounds.specs.Names.{mycielskian}
+use Rattle.zykov.specs.Walk.{State, boundedWalk, plainWalk}
+use Rattle.walk.specs.Promise.{Numbers, numbers, bare, atRow, afterNodes, Promised, answer}
+use Rattle.walk.specs.declared.Answer.{Answer}
+
+pub record Row : Type 0 where
+  pub rows : List ℕ
+  pub isPlain : Bool
+  pub budget : ℕ
+  pub want : Numbers
+  pub twice : ℕ
+  pub colours : List ℕ
+
+-- a list that the bounded walk accepts, with an ample budget: k, nodes, 2 P - 1, colours
+abbrev pub bounded : List ℕ → ℕ → ℕ → ℕ → List ℕ → Row
+bounded rows k m t c =
+    record { rows = rows; isPlain = false; budget = 1000; want = record { number = 0; k = k; nodes = m; leaves = 0; row = 0 }; twice = t; colours = c }
+
+-- the plain walk: and its complete graphs
+abbrev pub plain : List ℕ → ℕ → ℕ → ℕ → ℕ → List ℕ → Row
+plain rows k m l t c =
+    record { rows = rows; isPlain = true; budget = 1000; want = record { number = 0; k = k; nodes = m; leaves = l; row = 0 }; twice = t; colours = c }
+
+-- a budget, and what comes of it
+abbrev pub spent : List ℕ → ℕ → Numbers → List ℕ → Row
+spent rows b v c = record { rows = rows; isPlain = false; budget = b; want = v; twice = zero; colours = c }
+
+abbrev pub refused : List ℕ → Numbers → Row
+refused rows v = record { rows = rows; isPlain = false; budget = 1000; want = v; twice = zero; colours = [] }
+
+abbrev pub fiveCycle : List ℕ
+fiveCycle = 18 ∷ 5 ∷ 10 ∷ 20 ∷ 9 ∷ []
+
+abbrev pub table : List Row
+table =
+    bounded [] 0 1 1 []
+    ∷ bounded (0 ∷ []) 1 1 1 (0 ∷ [])
+    ∷ bounded (0 ∷ 0 ∷ []) 1 3 3 (0 ∷ 0 ∷ [])
+    ∷ bounded (2 ∷ 1 ∷ []) 2 1 1 (0 ∷ 1 ∷ [])
+    ∷ bounded (0 ∷ 0 ∷ 0 ∷ []) 1 5 9 (0 ∷ 0 ∷ 0 ∷ [])
+    ∷ bounded (2 ∷ 5 ∷ 2 ∷ []) 2 3 3 (0 ∷ 1 ∷ 0 ∷ [])
+    ∷ bounded (10 ∷ 5 ∷ 10 ∷ 5 ∷ []) 2 5 7 (0 ∷ 1 ∷ 0 ∷ 1 ∷ [])
+    ∷ bounded fiveCycle 3 5 21 (0 ∷ 1 ∷ 0 ∷ 1 ∷ 2 ∷ [])
+    ∷ spent fiveCycle 4 (afterNodes 6 4) []
+    ∷ spent fiveCycle 5 (record { number = 0; k = 3; nodes = 5; leaves = 0; row = 0 }) (0 ∷ 1 ∷ 0 ∷ 1 ∷ 2 ∷ [])
+    ∷ spent [] 0 (afterNodes 6 0) []
+    ∷ refused (2 ∷ []) (atRow 2 0)
+    ∷ refused (1 ∷ []) (atRow 3 0)
+    ∷ refused (2 ∷ 0 ∷ []) (atRow 4 0)
+    ∷ refused (listOf (λ i. zero) 65) (bare 1)
+    ∷ plain fiveCycle 3 21 11 21 (0 ∷ 1 ∷ 0 ∷ 1 ∷ 2 ∷ [])
+    ∷ []
+
+abbrev pub walkOf : (ℕ → Graph → ℕ) → Row → ℕ → (ℕ → ℕ → Bool) → State
+walkOf bound r = cond (r .isPlain) plainWalk (boundedWalk bound)
+
+-- ---- the test
+
+abbrev pub same : Numbers → Numbers → Bool
+same v w =
+    eqb (v .number) (w .number) && (eqb (v .k) (w .k) && (eqb (v .nodes) (w .nodes) && (eqb (v .leaves) (w .leaves) && eqb (v .row) (w .row))))
+
+abbrev pub sameList : List ℕ → List ℕ → Bool
+sameList [] [] = true
+sameList [] (y ∷ m) = false
+sameList (x ∷ l) [] = false
+sameList (x ∷ l) (y ∷ m) = eqb x y && sameList l m
+
+-- with a buffer of n zeros
+unfoldable pub passes : Row → Bool
+passes r =
+    same (numbers (answer (walkOf rounds.mycielskian r) (r .rows) (listOf (λ i. zero) (length (r .rows))) (r .budget))) (r .want)
+    && (cond (eqb (r .want .number) zero) (sameList (walkOf rounds.mycielskian r (length (r .rows)) (matrix (r .rows)) .best) (r .colours)) true
+    && cond (eqb (r .twice) zero) true (eqb (suc (r .twice)) (2 * freeDivisions (length (r .rows)) (matrix (r .rows)))))
+
+-- ---- what it means
+
+pub record Holds (r : Row) : Type 0 where
+  pub numbers-are : (before after : List ℕ) (a : Answer) → length (r .rows) ≤ length before
+      → Promised (walkOf mycielskian r) (r .rows) before (r .budget) a after → numbers a ≡ r .want
+  pub colours-are : (before after : List ℕ) (a : Answer) → length (r .rows) ≤ length before
+      → Promised (walkOf mycielskian r) (r .rows) before (r .budget) a after → r .want .number ≡ zero → take (length (r .rows)) after ≡ r .colours
+  pub twice-is : r .twice ≢ zero → suc (r .twice) ≡ 2 * freeDivisions (length (r .rows)) (matrix (r .rows))

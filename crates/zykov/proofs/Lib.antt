@@ -1,0 +1,9 @@
+-- The theorems.
+pub mod Allowed
+pub mod Grown
+pub mod Leaves
+pub mod Best
+pub mod Counts
+pub mod BudgetLaws
+pub mod Steps
+pub mod Demands
