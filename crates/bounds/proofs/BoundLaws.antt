@@ -1,12 +1,12 @@
 -- All that the crates above may use of the two bounds: neither exceeds the cardinality of any colouring of its graph, nor the chromatic number of
 -- its list; the clique bound is at most the Mycielskian, and that at most the number of vertices; in a complete graph both are that number.
 -- Assumes nothing.
-use mathlib.Core.Path.{_≡_, sym, ap, _∙_, subst}
+use mathlib.Core.Path.{_≡_, sym, subst}
 use mathlib.Core.Logic.{_⊎_, inl, inr}
 use mathlib.Core.Bool.{Bool}
 use mathlib.Core.List.{List, [], map}
 use mathlib.Core.Option.{none}
-use Prim.Native.Nat.{ℕ, _≤_, _<_}
+use Prim.Native.Nat.{ℕ, _≤_}
 use native.Mathlib.Nat.{le-trans, le-of-eq, le-antisymm}
 use lib.Dec.{T}
 use lib.IntN.{ℤ, ℤ-discrete}
@@ -15,7 +15,7 @@ use Rattle.sets.specs.Lists.{In, table, members}
 use Rattle.sets.proofs.ListLaws.{noDup-le, map-In, In-table}
 use Rattle.sets.proofs.MemberLaws.{In-members}
 use Rattle.clashes.specs.Labels.{distinct}
-use Rattle.clashes.specs.Colouring.{Proper, labelsOn, cardinality, Chromatic, Lower}
+use Rattle.clashes.specs.Colouring.{Chromatic, Lower}
 use Rattle.clashes.specs.Divisions.{groups}
 use Rattle.clashes.specs.Matrix.{Valid}
 use Rattle.clashes.proofs.NumberLaws.{distinct-new, distinct-cases, distinct-noDup}
@@ -24,7 +24,6 @@ use Rattle.graphs.specs.Good.{Good}
 use Rattle.graphs.proofs.GraphLaws.{pair-full, complete-none}
 use Rattle.graphs.proofs.SplitLaws.{graph-clash, good-graph}
 use Rattle.graphs.proofs.GroupingLaws.{grouping-groups}
-use Rattle.cliques.specs.Clique.{clique}
 use Rattle.cliques.proofs.CliqueLaws.{clique-full}
 use Rattle.mycielski.proofs.RoundLaws as rounds
 use Rattle.bounds.specs.Names.{cliqueBound, mycielskian, clique-is, mycielskian-is}

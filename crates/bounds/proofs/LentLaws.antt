@@ -3,12 +3,11 @@ use mathlib.Core.Path.{_≡_, refl, sym, ap, ap₂, _∙_, subst}
 use mathlib.Core.List.{List}
 use Prim.Native.Nat.{ℕ, suc}
 use native.Mathlib.Omega.{arith}
-use lib.ListN.{length}
-use Rattle.clashes.specs.Matrix.{matrix, Sound, Judged, numberOf}
+use Rattle.clashes.specs.Matrix.{Sound, Judged, numberOf}
 use Rattle.clashes.specs.declared.Verdict.{Verdict}
 use Rattle.clashes.specs.declared.Verdict.the-variants.{Valid, Many, Stray, Itself, OneSided}
 use Rattle.clashes.proofs.MatrixLaws.{judged-unique}
-use Rattle.graphs.specs.Graph.{Graph, graph}
+use Rattle.graphs.specs.Graph.{Graph}
 use Rattle.graphs.specs.Held.{view}
 use Rattle.graphs.specs.Acts.{IsRoot}
 use Rattle.graphs.specs.declared.Node.{Node}

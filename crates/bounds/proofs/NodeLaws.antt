@@ -6,17 +6,17 @@ use native.Mathlib.Nat.{le-trans, le-of-eq}
 use native.Mathlib.Decide.{decLt}
 use native.Mathlib.Omega.{arith}
 use lib.Dec.{leb}
-use lib.ListN.{length}
 use borrow.Author.Tests.{le-leb, lt-leb}
 use Rattle.sets.specs.Set.{size}
-use Rattle.graphs.specs.Graph.{Graph, vertices}
+use Rattle.graphs.specs.Graph.{Graph}
 use Rattle.graphs.specs.Held.{view, Held}
 use Rattle.graphs.specs.declared.Node.{Node}
 use Rattle.graphs.proofs.HeldLaws.{held-vertices}
+use Rattle.graphs.proofs.LoopLaws.{size-le}
 use Rattle.cliques.specs.Clique.{clique}
 use Rattle.cliques.specs.Growth.{IsSetOf}
 use Rattle.cliques.proofs.CliqueLaws as cliques
-use Rattle.cliques.proofs.WordLaws.{size-length, size-few}
+use Rattle.cliques.proofs.WordLaws.{size-length}
 use Rattle.mycielski.specs.Rounds
 use Rattle.mycielski.specs.Words.{Climbs}
 use Rattle.bounds.specs.Names.{cliqueBound, mycielskian, clique-is, mycielskian-is}
@@ -36,8 +36,9 @@ module _ (h : Node) (k : Held h) where
   most : mycielskian n g ≤ size 64 (h .live)
   most = le-trans (mycielskian-vertices n g (k .good)) (le-of-eq (sym (held-vertices h k)))
 
-  pub climbs-whole : (r : ℕ) → Climbs (Rounds.mycielskian n g) 65 r → r ≡ mycielskian n g
-  climbs-whole r c = c .whole (omega (arith, c .most, mycielskian-is n g, most, size-few (h .live))) ∙ sym (mycielskian-is n g)
+  -- what could only be reached above 64 is the whole
+  pub climbs-whole : {enough r : ℕ} → Climbs (Rounds.mycielskian n g) enough r → 64 < enough → r ≡ mycielskian n g
+  climbs-whole c l = c .whole (omega (arith, c .most, mycielskian-is n g, most, size-le 64 (h .live))) ∙ sym (mycielskian-is n g)
 
   pub climbs-reach : (best r : ℕ) → Climbs (Rounds.mycielskian n g) best r → leb best r ≡ leb best (mycielskian n g)
   climbs-reach best r c = go (decLt r best)

@@ -12,14 +12,11 @@ use Rattle.sets.proofs.TestLaws.{T→true, T→false}
 use Rattle.sets.proofs.ListLaws.{In-append}
 use Rattle.graphs.specs.Graph.{Graph, live, vertices}
 use Rattle.graphs.proofs.PairLaws.{members-noDup}
+use Rattle.graphs.proofs.LoopLaws.{or-false}
 use Rattle.cliques.specs.Clique.{isIn, admits, joined, again, once, cliques}
 use Rattle.cliques.specs.Growth.{scan}
 use Rattle.cliques.proofs.ListLaws.{some-agree, some-append, some-map, map-append, map-same, map-map}
 use Rattle.cliques.proofs.ScanLaws.{joined-from, scan-takes}
-
-or-false : (a : Bool) → (a || false) ≡ a
-or-false true = refl
-or-false false = refl
 
 module _ (g : Graph) where
   -- the cliques that vertices of vs open, where those that pass the test `taken` are in a clique already

@@ -1,7 +1,7 @@
 -- Laws of the clique: it is the largest of the cliques one by one, it is a clique, and in a complete graph it has every vertex.
 -- Assumes nothing.
 use mathlib.Core.Path.{_≡_, refl, sym, ap, _∙_, subst}
-use mathlib.Core.Logic.{_⊎_, inl, inr, _≢_}
+use mathlib.Core.Logic.{inl, inr, _≢_}
 use mathlib.Core.Bool.{Bool, true, false, _||_, cond}
 use mathlib.Core.List.{List, [], _∷_, map}
 use Prim.Native.Nat.{ℕ, _≤_, _<_, zero-le}
@@ -17,10 +17,10 @@ use Rattle.graphs.specs.Graph.{Graph, live, vertices}
 use Rattle.graphs.specs.Good.{Live, Good}
 use Rattle.graphs.proofs.PairLaws.{members-noDup}
 use Rattle.graphs.proofs.GraphLaws.{vertices-live}
-use Rattle.cliques.specs.Clique.{isIn, admits, joined, cliques, clique, IsClique}
+use Rattle.cliques.specs.Clique.{isIn, joined, cliques, clique, IsClique}
 use Rattle.cliques.specs.Growth.{scan}
 use Rattle.cliques.proofs.ListLaws.{every-make, larger, larger-none, larger-le}
-use Rattle.cliques.proofs.ScanLaws.{joined-adds, joined-from, joined-keeps, scan-keeps, scan-clique, empty-clique, alone-clique}
+use Rattle.cliques.proofs.ScanLaws.{joined-adds, joined-from, scan-keeps, scan-clique, empty-clique, alone-clique}
 use Rattle.cliques.proofs.ChainLaws.{chain, cliques-chain}
 
 -- ---- the largest of the cliques one by one

@@ -1,30 +1,30 @@
 -- The hunt for the largest clique in words: what a vertex opens, and one turn of the hunt.
 -- Assumes nothing.
-use mathlib.Core.Path.{_≡_, refl, sym, ap, ap₂, _∙_, subst}
-use mathlib.Core.Logic.{_⊎_, inl, inr, _≢_}
+use mathlib.Core.Path.{_≡_, refl, sym, ap, _∙_, subst}
+use mathlib.Core.Logic.{inl, _≢_}
 use mathlib.Core.Bool.{Bool, true, false, not, _&&_, _||_, cond}
 use mathlib.Core.List.{List, [], _∷_, _++_, map}
-use Prim.Native.Nat.{ℕ, zero, suc, _≤_, _<_}
+use Prim.Native.Nat.{ℕ, zero, _≤_, _<_}
 use native.Mathlib.Nat.{le-trans, le-of-eq}
 use native.Mathlib.Decide.{decLt}
 use native.Mathlib.Omega.{arith}
-use lib.Dec.{T, eqb, ltb, leb, ltb→lt, lt→ltb}
+use lib.Dec.{T, ltb, ltb→lt, lt→ltb}
 use lib.ListN.{length, getD}
 use borrow.Author.Tests.{lt-ltb, le-ltb}
 use Rattle.sets.specs.Lists.{In, members, over}
-use Rattle.sets.specs.Set.{has, size, IsWith, IsMeet, IsLess, IsBelow, IsLowest}
-use Rattle.sets.proofs.TestLaws.{and-l, and-r, and-t, not-t, t-not, T→true, T→false}
-use Rattle.sets.proofs.MemberLaws.{In-members, members-In}
+use Rattle.sets.specs.Set.{has, size, IsMeet, IsLess, IsBelow, IsLowest}
+use Rattle.sets.proofs.TestLaws.{and-l, and-r, and-t, not-t, t-not, T→true}
+use Rattle.sets.proofs.MemberLaws.{In-members}
 use Rattle.sets.proofs.SetLaws.{has-none}
 use Rattle.graphs.specs.Graph.{Graph, live, vertices}
-use Rattle.graphs.specs.Good.{Live, Good}
 use Rattle.graphs.specs.Held.{view, Held}
 use Rattle.graphs.specs.declared.Node.{Node}
 use Rattle.graphs.proofs.GraphLaws.{live-of, of-live, vertices-live}
+use Rattle.graphs.proofs.LoopLaws.{members-narrow}
 use Rattle.cliques.specs.Clique.{isIn, admits, clique, IsClique}
-use Rattle.cliques.specs.Growth.{IsSetOf, elements, scan, Grown, Grows, Within, after, Reaches}
+use Rattle.cliques.specs.Growth.{IsSetOf, elements, scan, Grown, Grows, Within, after}
 use Rattle.cliques.specs.declared.Growth.{Growth}
-use Rattle.cliques.proofs.ListLaws.{in-of, of-in, members-wide, members-at, larger, larger-le}
+use Rattle.cliques.proofs.ListLaws.{of-in, members-at, larger, larger-le}
 use Rattle.cliques.proofs.ScanLaws.{scan-keeps, scan-skip, scan-clique, alone-clique, empty-clique}
 use Rattle.cliques.proofs.ChainLaws.{chain, chain-open, chain-agree, chain-none}
 use Rattle.cliques.proofs.CliqueLaws.{second, clique-chain}
@@ -45,7 +45,7 @@ module _ (h : Node) (k : Held h) where
       → ((x : ℕ) → T (p x) → T (admits g c x) → T (has w x)) → scan g c (elements w) ≡ scan g c (members p n)
   unfolding elements
   along c w p l into from =
-      sym (scan-skip g c p (has w) 64 into from) ∙ ap (scan g c) (members-wide p n 64 (k .few) (λ x t. live-below x (l x t)))
+      sym (scan-skip g c p (has w) 64 into from) ∙ ap (scan g c) (members-narrow p n 64 (k .few) (λ x b t. let c = live-below x (l x t) in let z : ⊥ = omega arith in z))
 
   -- ---- what s opens
 

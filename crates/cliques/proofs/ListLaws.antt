@@ -1,21 +1,22 @@
--- Laws of tests over a list, of a list's elements as a test, of members below two numbers, and of the first greatest element.
+-- Laws of tests over a list, of a list's elements as a test, of members before and after one,
+-- and of the first greatest element.
 -- Assumes nothing.
 use mathlib.Core.Path.{_≡_, refl, sym, ap, ap₂, _∙_, subst}
-use mathlib.Core.Logic.{_⊎_, inl, inr, _≢_}
-use mathlib.Core.Bool.{Bool, true, false, not, _&&_, _||_, cond}
+use mathlib.Core.Logic.{_⊎_, inl, inr}
+use mathlib.Core.Bool.{Bool, true, false, _&&_, _||_, cond}
 use mathlib.Core.List.{List, [], _∷_, _++_, map, append-assoc}
-use mathlib.Core.Option.{Option, none, some, Option·getD, Option·none-ne-some, Option·some-injective}
+use mathlib.Core.Option.{Option, none, some, Option·getD}
 use Prim.Native.Nat.{ℕ, zero, suc, _≤_, _<_}
 use native.Mathlib.Nat.{not-suc-le-zero, le-refl, le-trans, le-antisymm}
 use native.Mathlib.Decide.{ℕ-discrete, decLt}
 use native.Mathlib.Omega.{arith}
-use lib.Dec.{T, eqb, ltb, leb, eqb→eq, eqb-refl, leb→le, nleb→lt, lt→ltb, ltb→lt}
+use lib.Dec.{T, eqb, ltb, leb, eqb→eq, eqb-refl, lt→ltb, ltb→lt}
 use lib.ListN.{length}
 use borrow.Author.Tests.{lt-ltb, le-ltb, le-leb, lt-leb}
 use Rattle.sets.specs.Lists.{In, NoDup, members, keep, every, some?, better, greatest, over}
-use Rattle.sets.proofs.TestLaws.{and-l, and-r, and-t, or-l, or-r, or-cases, T→true, T→false, T-ext, and-true}
+use Rattle.sets.proofs.TestLaws.{and-l, and-r, and-t, or-l, or-r, or-cases, T→true, and-true}
 use Rattle.sets.proofs.ListLaws.{noDup-le}
-use Rattle.sets.proofs.MemberLaws.{members-none, members-agree, members-lowest}
+use Rattle.sets.proofs.MemberLaws.{members-none}
 use Rattle.cliques.specs.Clique.{isIn}
 use Rattle.cliques.specs.Growth.{after}
 
@@ -85,27 +86,8 @@ in-of x c t = let r = some-get (eqb x) c t in subst (λ z. In z c) (sym (eqb→e
 pub of-in : (x : ℕ) (c : List ℕ) → In x c → T (isIn x c)
 of-in x c i = some-make (eqb x) c x i (eqb-refl x)
 
--- ---- members below two numbers
+-- ---- members before and after one of them
 
-pub members-wide : (p : ℕ → Bool) (n m : ℕ) → n ≤ m → ((x : ℕ) → T (p x) → x < n) → members p m ≡ members p n
-members-wide p n zero a h = ap (members p) (let z : zero ≡ n = omega arith in z)
-members-wide p n (suc m) a h = go (ℕ-discrete n (suc m)) (members-wide p n m)
-  where
-    kept : (b : Bool) → ¬ T b → keep b m ≡ []
-    kept true q = absurd (q tt)
-    kept false q = refl
-
-    end : (l : List ℕ) → l ++ [] ≡ l
-    end [] = refl
-    end (x ∷ l) = ap (λ (k : List ℕ). x ∷ k) (end l)
-
-    go : Dec (n ≡ suc m) → (n ≤ m → ((x : ℕ) → T (p x) → x < n) → members p m ≡ members p n) → members p m ++ keep (p m) m ≡ members p n
-    go (yes e) r = sym (ap (members p) e)
-    go (no q) r =
-        let b : n ≤ m = omega arith in
-        ap₂ (λ (k l : List ℕ). k ++ l) (r b h) (kept (p m) (λ t. let c = h m t in let z : ⊥ = omega arith in z)) ∙ end (members p n)
-
--- those before s, then s, then those after it
 pub members-at : (p : ℕ → Bool) (s n : ℕ) → s < n → T (p s) → members p n ≡ members p s ++ s ∷ members (after s p) n
 members-at p s zero a t = absurd (not-suc-le-zero a)
 members-at p s (suc n) a t = go (ℕ-discrete s n) (members-at p s n)

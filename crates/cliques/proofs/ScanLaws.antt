@@ -1,14 +1,13 @@
 -- Laws of a clique grown along a list: what it keeps, where its members come from, that it stays a clique, and which vertices can be left out.
 -- Assumes nothing.
-use mathlib.Core.Path.{_≡_, refl, sym, ap, ap₂, _∙_}
+use mathlib.Core.Path.{_≡_, refl, sym, ap, _∙_}
 use mathlib.Core.Logic.{_⊎_, inl, inr, _≢_}
 use mathlib.Core.Bool.{Bool, true, false, not, _&&_, cond}
-use mathlib.Core.List.{List, [], _∷_, _++_}
+use mathlib.Core.List.{List, [], _∷_}
 use Prim.Native.Nat.{ℕ, zero, suc, _<_}
-use native.Mathlib.Omega.{arith}
 use lib.Dec.{T, eqb}
 use borrow.Author.Tests.{ne-eqb}
-use Rattle.sets.specs.Lists.{In, NoDup, keep, members, every}
+use Rattle.sets.specs.Lists.{In, keep, members}
 use Rattle.sets.proofs.TestLaws.{T-ext, and-l, and-r, and-t, and-true}
 use Rattle.sets.proofs.MemberLaws.{members-lowest}
 use Rattle.graphs.specs.Graph.{Graph}

@@ -1,31 +1,27 @@
 -- Cliques in words: the set of a clique with one vertex more, what it still admits, its size; one turn of growing, and one of opening.
 -- Assumes nothing.
 use mathlib.Core.Path.{_≡_, refl, sym, ap, ap₂, _∙_, subst}
-use mathlib.Core.Logic.{_⊎_, inl, inr, _≢_}
-use mathlib.Core.Bool.{Bool, true, false, not, _&&_, _||_}
+use mathlib.Core.Bool.{Bool, true, false, _&&_, _||_}
 use mathlib.Core.List.{List, [], _∷_}
-use Prim.Native.Nat.{ℕ, zero, suc, _≤_, _<_}
-use native.Mathlib.Nat.{le-trans, le-of-eq}
+use Prim.Native.Nat.{ℕ, zero, _≤_, _<_}
 use native.Mathlib.Omega.{arith}
 use lib.Dec.{T, eqb, eqb→eq}
 use lib.ListN.{length, getD}
-use Rattle.sets.specs.Lists.{In, upto, members}
-use Rattle.sets.specs.Set.{has, size, IsWith, IsMeet, IsLess, IsBelow, IsLowest}
+use Rattle.sets.specs.Lists.{upto, members}
+use Rattle.sets.specs.Set.{has, size, IsWith, IsMeet, IsLowest}
 use Rattle.sets.proofs.TestLaws.{and-l, and-r, and-t, T→true, T-ext, eqb-of}
-use Rattle.sets.proofs.ListLaws.{count-lt, In-table, length-table}
+use Rattle.sets.proofs.ListLaws.{count-lt, In-table}
 use Rattle.sets.proofs.MemberLaws.{members-count, members-none, In-members, members-In}
 use Rattle.sets.proofs.SetLaws.{has-none}
 use Rattle.graphs.specs.Graph.{Graph, live}
-use Rattle.graphs.specs.Good.{Good}
 use Rattle.graphs.specs.Held.{view, Held}
 use Rattle.graphs.specs.declared.Node.{Node}
-use Rattle.graphs.proofs.PairLaws.{members-noDup, count-length}
-use Rattle.graphs.proofs.GraphLaws.{of-live}
+use Rattle.graphs.proofs.PairLaws.{members-noDup}
 use Rattle.cliques.specs.Clique.{isIn, admits, IsClique}
 use Rattle.cliques.specs.Growth.{IsSetOf, elements, scan, Grown, Grows, Within}
 use Rattle.cliques.specs.declared.Growth.{Growth}
 use Rattle.cliques.proofs.ListLaws.{in-of, of-in, length-same}
-use Rattle.cliques.proofs.ScanLaws.{scan-skip, scan-lowest}
+use Rattle.cliques.proofs.ScanLaws.{scan-lowest}
 
 -- ---- sets
 
@@ -48,10 +44,6 @@ none-isIn x = has-none x
 pub size-fewer : (s r v : ℕ) → v < 64 → Within r s → T (has s v) → ¬ T (has r v) → size 64 r < size 64 s
 unfolding upto
 size-fewer s r v b f t q = count-lt (has r) (has s) (upto 64) f v (In-table (λ i. i) 64 v b) q t
-
-pub size-few : (w : ℕ) → size 64 w ≤ 64
-unfolding upto
-size-few w = le-trans (count-length (has w) (upto 64)) (le-of-eq (length-table (λ i. i) 64))
 
 -- the size of a clique's set is the clique's
 pub size-length : (n : ℕ) (g : Graph) (c : List ℕ) (w : ℕ) → n ≤ 64 → IsClique n g c → IsSetOf c w → size 64 w ≡ length c

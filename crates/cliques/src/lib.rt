@@ -30,13 +30,12 @@ pub fn grow(h: Node, c: Growth, left: u64) -> Growth
     requires { ⌜ Within (c .near) (h .live) ⌝ }
     ensures { λ r. ⌜ Grows (h .n) (view h) left c r ⌝ }
 {
-    let rows = h.rows;
     let mut set = c.set;
     let mut near = c.near;
     let mut rest = left;
     while rest != 0 {
         let v = lowest(rest);
-        let row = rows[v];
+        let row = h.rows[v];
         set = with(set, v);
         near = meet(near, row);
         rest = meet(rest, row);
@@ -54,8 +53,7 @@ pub fn opened(h: Node, s: usize) -> Growth
     requires { ⌜ T (has (h .live) s) ⌝ }
     ensures { λ r. ⌜ Grown (h .n) (view h) (scan (view h) (s ∷ []) (members (after s (live (h .n) (view h))) (h .n))) r ⌝ }
 {
-    let rows = h.rows;
-    let near = meet(h.live, rows[s]);
+    let near = meet(h.live, h.rows[s]);
     let c = Growth {
         set: with(0, s),
         near: near,

@@ -1,35 +1,33 @@
 -- The climb in words: H and the bound so far, from which the rounds that are left give the whole's bound. Assumes nothing.
-use mathlib.Core.Path.{_≡_, refl, sym, ap, _∙_, fun-ext, subst}
-use mathlib.Core.Logic.{_⊎_, inl, inr}
-use mathlib.Core.Bool.{Bool, true, false, not, _||_}
-use mathlib.Core.List.{List}
-use mathlib.Core.Option.{Option, none, some}
-use Prim.Native.Nat.{ℕ, zero, suc, _+_, _≤_, _<_}
+use mathlib.Core.Path.{_≡_, sym, ap, _∙_, fun-ext, subst}
+use mathlib.Core.Logic.{inl, inr}
+use mathlib.Core.Bool.{Bool, false, not, _||_}
+use mathlib.Core.Option.{Option, some}
+use Prim.Native.Nat.{ℕ, suc, _+_, _≤_, _<_}
 use native.Mathlib.Nat.{le-trans, le-of-eq}
 use native.Mathlib.Omega.{arith}
-use lib.Dec.{T, leb}
-use lib.ListN.{length, getD}
+use lib.Dec.{T}
+use lib.ListN.{length}
 use borrow.Author.Tests.{le-leb, lt-leb}
-use Rattle.sets.specs.Lists.{count, all, any, members, upto, lowest}
+use Rattle.sets.specs.Lists.{count, all, any, upto, lowest}
 use Rattle.sets.specs.Set.{has, size, IsLowest}
 use Rattle.sets.proofs.TestLaws.{and-l}
-use Rattle.sets.proofs.MemberLaws.{members-count, lowest-is, lowest-none}
+use Rattle.sets.proofs.MemberLaws.{lowest-is, lowest-none}
 use Rattle.sets.proofs.SetLaws.{has-none}
 use Rattle.graphs.specs.Graph.{Graph, live, vertices}
 use Rattle.graphs.specs.Held.{view, Held}
 use Rattle.graphs.specs.declared.Node.{Node}
 use Rattle.graphs.proofs.GraphLaws.{live-of, of-live}
+use Rattle.graphs.proofs.LoopLaws.{count-narrow}
 use Rattle.graphs.proofs.HeldLaws.{held-vertices}
 use Rattle.cliques.specs.Clique.{isIn, clique, IsClique}
 use Rattle.cliques.specs.Growth.{IsSetOf, Reaches}
-use Rattle.cliques.proofs.ListLaws.{members-wide}
 use Rattle.cliques.proofs.CliqueLaws.{clique-is}
 use Rattle.cliques.proofs.WordLaws.{size-length}
 use Rattle.mycielski.specs.Rounds.{Part, whole, offers, ofW, extend, full, onward, rounds, limit, mycielskian}
 use Rattle.mycielski.specs.Words.{partOf, Inside}
 use Rattle.mycielski.specs.declared.Sub.{Sub}
 use Rattle.mycielski.proofs.RoundLaws.{Fine, whole-fine, fine-round, rounds-le, rounds-end, clique-le}
-use Rattle.mycielski.proofs.SetLoops.{live-below}
 
 module _ (h : Node) (k : Held h) where
   abbrev g : Graph
@@ -41,7 +39,7 @@ module _ (h : Node) (k : Held h) where
   -- ---- sizes
 
   size-within : (s : ℕ) → ((x : ℕ) → T (has s x) → x < n) → size 64 s ≡ count (has s) (upto n)
-  size-within s f = sym (members-count (has s) 64) ∙ ap length (members-wide (has s) n 64 (k .few) f) ∙ members-count (has s) n
+  size-within s f = count-narrow (has s) n 64 (k .few) (λ x b t. let c = f x t in let z : ⊥ = omega arith in z)
 
   -- ---- the clique, or one that is large enough
 

@@ -1,18 +1,26 @@
 -- A loop over the members of a set, lowest first: what is done, what one turn does to it, and to tests over all that is done.
 -- Assumes nothing.
 use mathlib.Core.Path.{_≡_, refl, sym, ap, _∙_, fun-ext, subst}
-use mathlib.Core.Logic.{_⊎_, inl, inr, _≢_}
+use mathlib.Core.Logic.{_⊎_, inl, inr}
 use mathlib.Core.Bool.{Bool, true, false, not, _&&_, _||_}
 use Prim.Native.Nat.{ℕ, zero, suc, _<_}
 use native.Mathlib.Decide.{ℕ-discrete}
-use native.Mathlib.Omega.{arith}
 use lib.Dec.{T, eqb, eqb→eq}
 use borrow.Author.Tests.{eq-eqb, ne-eqb}
 use Rattle.sets.specs.Lists.{all, any}
-use Rattle.sets.specs.Set.{has, size, IsWithout, IsLowest}
-use Rattle.sets.proofs.TestLaws.{and-l, and-r, and-t, or-l, or-r, or-cases, T→true, T-ext, eqb-of, eqb-same, all-get, all-make, any-get, any-make, t-not}
-use Rattle.sets.proofs.SetLaws.{has-none, size-without}
+use Rattle.sets.specs.Set.{has, IsWithout, IsLowest}
+use Rattle.sets.proofs.TestLaws.{and-l, and-r, and-t, and-true, or-l, or-r, or-cases, T→true, T-ext, eqb-of, all-get, all-make, any-get, any-make}
+use Rattle.sets.proofs.SetLaws.{has-none}
 use Rattle.cliques.specs.Growth.{Within}
+
+-- what passes where a test does
+pub imp-get : (a b : Bool) → T (not a || b) → T a → T b
+imp-get true b t u = t
+imp-get false b t u = absurd u
+
+pub imp-make : (a b : Bool) → (T a → T b) → T (not a || b)
+imp-make true b r = r tt
+imp-make false b r = tt
 
 -- x is in s and not left
 abbrev pub done : ℕ → ℕ → ℕ → Bool
@@ -26,11 +34,7 @@ done-none s x = go (has s x)
     go false = refl
 
 pub done-all : (s : ℕ) → (λ x. done s 0 x) ≡ has s
-done-all s = fun-ext (λ x. ap (λ (b : Bool). has s x && not b) (has-none x) ∙ and-true′ (has s x))
-  where
-    and-true′ : (b : Bool) → (b && true) ≡ b
-    and-true′ true = refl
-    and-true′ false = refl
+done-all s = fun-ext (λ x. ap (λ (b : Bool). has s x && not b) (has-none x) ∙ and-true (has s x))
 
 module _ (s left v left′ : ℕ) (i : Within left s) (w : IsLowest 64 left v) (o : IsWithout left v left′) where
   pub within-again : Within left′ s
@@ -52,9 +56,6 @@ module _ (s left v left′ : ℕ) (i : Within left s) (w : IsLowest 64 left v) (
       go (yes e) = rw (eq-eqb v x e) (here (has s x) (has left x) (T→true (has s x) (subst (λ z. T (has s z)) e (i v (w .member)))))
       go (no d) = rw (ne-eqb v x d) (cases (has s x) (has left x))
 
-  pub left-less : size 64 left′ < size 64 left
-  left-less = omega (arith, size-without 64 left v left′ (w .below) (w .member) o)
-
 module _ (n : ℕ) (q q′ f : ℕ → Bool) (u : ℕ) (b : u < n) (h : (v : ℕ) → q′ v ≡ (q v || eqb u v)) where
   old : (v : ℕ) → T (q v) → T (q′ v)
   old v t = subst T (sym (h v)) (or-l (q v) (eqb u v) t)
@@ -64,14 +65,6 @@ module _ (n : ℕ) (q q′ f : ℕ → Bool) (u : ℕ) (b : u < n) (h : (v : ℕ
 
   which : (v : ℕ) → T (q′ v) → T (q v) ⊎ (u ≡ v)
   which v t = elim (or-cases (q v) (eqb u v) (subst T (h v) t)) [ inl a ↦ inl a | inr e ↦ inr (eqb→eq u v e) ]
-
-  imp-get : (a c : Bool) → T (not a || c) → T a → T c
-  imp-get true c t x = t
-  imp-get false c t x = absurd x
-
-  imp-make : (a c : Bool) → (T a → T c) → T (not a || c)
-  imp-make true c r = r tt
-  imp-make false c r = tt
 
   pub all-more : all n (λ v. not (q′ v) || f v) ≡ (all n (λ v. not (q v) || f v) && f u)
   all-more = T-ext (all n (λ v. not (q′ v) || f v)) (all n (λ v. not (q v) || f v) && f u) there back

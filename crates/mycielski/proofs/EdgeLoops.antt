@@ -6,18 +6,17 @@ use mathlib.Core.List.{List}
 use Prim.Native.Nat.{ℕ, zero, _≤_, _<_}
 use native.Mathlib.Decide.{ℕ-discrete, decLt}
 use native.Mathlib.Omega.{arith}
-use lib.Dec.{T, eqb}
+use lib.Dec.{eqb}
 use lib.ListN.{length, getD, set, replicate, length-set, length-replicate, getD-replicate, List·getD-eq-default}
 use lib.Seq.{getD-set-same, getD-set-other}
 use borrow.Author.Tests.{eq-eqb, ne-eqb}
 use Rattle.sets.specs.Set.{has, IsWith, IsWithout, IsJoin, IsLowest}
-use Rattle.sets.proofs.TestLaws.{T→true}
 use Rattle.sets.proofs.SetLaws.{has-none}
+use Rattle.graphs.proofs.LoopLaws.{or-false}
 use Rattle.cliques.specs.Growth.{Within}
 use Rattle.cliques.proofs.WordLaws.{eqb-turn}
 use Rattle.mycielski.specs.Rounds.{Part, whole}
 use Rattle.mycielski.specs.Words.{partOf, Ties}
-use Rattle.mycielski.specs.declared.Sub.{Sub}
 use Rattle.mycielski.proofs.DoneLaws.{done, done-none, done-all, within-again, done-more}
 
 -- two parts with the same vertices and edges are equal
@@ -67,10 +66,6 @@ whole-again c near left v out left′ i w q o = record {
     or-true true = refl
     or-true false = refl
 
-    or-false : (a : Bool) → (a || false) ≡ a
-    or-false true = refl
-    or-false false = refl
-
 pub whole-end : (c : ℕ) (near : List ℕ) → Whole c near 0 → partOf (record { set = c; near = near }) ≡ whole (has c)
 whole-end c near i =
     part-ext (partOf (record { set = c; near = near })) (whole (has c)) (λ x. refl)
@@ -110,10 +105,6 @@ tying-again u ys r₀ r left v s left′ i w q o = record {
       (sym (done-more ys left v left′ (i .within) w o x ∙ ap (λ (b : Bool). done ys left x || b) (ne-eqb v x d) ∙ or-false (done ys left x))));
 }
   where
-    or-false : (a : Bool) → (a || false) ≡ a
-    or-false true = refl
-    or-false false = refl
-
     here : (a b c : Bool) → ((a || (b && c)) || b) ≡ (a || (b && (c || true)))
     here true b c = refl
     here false true true = refl
@@ -130,10 +121,6 @@ tying-end near u ys s r b j i x y =
     (ap (λ (q : ℕ → Bool). q x) (done-all ys))
     ∙ sym (assoc (has (getD near x zero) y) (eqb x u && has ys y) (eqb y u && has ys x))
   where
-    or-false : (a : Bool) → (a || false) ≡ a
-    or-false true = refl
-    or-false false = refl
-
     assoc : (a b c : Bool) → (a || (b || c)) ≡ ((a || b) || c)
     assoc true b c = refl
     assoc false b c = refl

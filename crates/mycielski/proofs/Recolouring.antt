@@ -2,7 +2,7 @@
 -- argument is by recolouring: where a vertex of H has w's label, it takes that of its chosen member instead. That is a colouring of H with no
 -- vertex of w's label, so H's bound holds of it, and w's own label comes to it. Assumes nothing.
 use mathlib.Core.Path.{_≡_, refl, sym, _∙_, subst}
-use mathlib.Core.Logic.{_⊎_, inl, inr, _≢_}
+use mathlib.Core.Logic.{inl, inr, _≢_}
 use mathlib.Core.HLevel.{Discrete}
 use mathlib.Core.Bool.{Bool}
 use mathlib.Core.List.{List, [], _∷_, map}
@@ -10,7 +10,7 @@ use Prim.Native.Nat.{ℕ, suc, _≤_, _<_, suc-le-suc}
 use native.Mathlib.Nat.{le-trans, le-of-eq}
 use lib.Dec.{T}
 use lib.ListN.{length, length-map}
-use lib.IntN.{ℤ, ℤ-discrete}
+use lib.IntN.{ℤ-discrete}
 use Rattle.sets.specs.Lists.{In, NoDup, members}
 use Rattle.sets.proofs.ListLaws.{noDup-le, map-In, In-map}
 use Rattle.sets.proofs.MemberLaws.{members-In}

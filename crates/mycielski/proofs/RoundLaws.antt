@@ -1,6 +1,6 @@
 -- Laws of the rounds: H stays a part of the graph of which the bound holds, so the bound is a lower one; the rounds end; in a complete graph the
 -- bound is the number of vertices. Assumes nothing.
-use mathlib.Core.Path.{_≡_, refl, sym, ap, _∙_, subst}
+use mathlib.Core.Path.{_≡_, refl, sym, subst}
 use mathlib.Core.Logic.{_⊎_, inl, inr, _≢_}
 use mathlib.Core.Bool.{Bool, true, false, not, _&&_, _||_}
 use mathlib.Core.List.{List, [], _∷_, map}
@@ -8,11 +8,11 @@ use mathlib.Core.Option.{Option, none, some, Option·getD, Option·none-ne-some,
 use Prim.Native.Nat.{ℕ, zero, suc, _+_, _≤_, _<_}
 use native.Mathlib.Nat.{le-refl, le-trans, le-of-eq, le-antisymm}
 use native.Mathlib.Omega.{arith}
-use lib.Dec.{T, eqb, leb, eqb→eq, eqb-refl}
+use lib.Dec.{T, eqb, eqb→eq, eqb-refl}
 use lib.ListN.{length, length-map}
 use lib.IntN.{ℤ, pos, ℤ-discrete}
-use Rattle.sets.specs.Lists.{In, count, all, any, members, upto, first, lowest}
-use Rattle.sets.proofs.TestLaws.{and-l, and-r, and-t, or-l, or-r, or-cases, eqb-of, all-get, any-get, any-make}
+use Rattle.sets.specs.Lists.{In, any, members, upto, first, lowest}
+use Rattle.sets.proofs.TestLaws.{and-l, and-r, and-t, or-l, or-r, or-cases, all-get, any-get, any-make}
 use Rattle.sets.proofs.ListLaws.{noDup-le, length-table}
 use Rattle.sets.proofs.MemberLaws.{In-members, members-In, members-count}
 use Rattle.clashes.specs.Labels.{distinct}
@@ -26,8 +26,9 @@ use Rattle.graphs.proofs.GraphLaws.{live-of, of-live}
 use Rattle.cliques.specs.Clique.{isIn, clique, IsClique}
 use Rattle.cliques.proofs.ListLaws.{in-of, of-in}
 use Rattle.cliques.proofs.CliqueLaws.{clique-is, clique-full}
-use Rattle.mycielski.specs.Rounds.{Part, whole, nearAll, ofS, offers, ofW, chosen, tied, extend, full, onward, rounds, limit, mycielskian}
-use Rattle.mycielski.proofs.Recolouring.{Holds, clique-holds, Round, round-holds, lower}
+use Rattle.mycielski.specs.Rounds.{Part, whole, offers, ofW, chosen, tied, extend, full, onward, rounds, limit, mycielskian}
+use Rattle.mycielski.proofs.DoneLaws.{imp-get}
+use Rattle.mycielski.proofs.Recolouring.{Holds, clique-holds, round-holds, lower}
 
 -- ---- the lowest
 
@@ -45,10 +46,6 @@ lowest-passes p n x b t = go (members p n) (λ w i. In-members p n w i) (members
     go : (l : List ℕ) → ((w : ℕ) → In w l → (w < n) × T (p w)) → In x l → (Option·getD (first l) 0 < n) × T (p (Option·getD (first l) 0))
     go [] f i = absurd i
     go (w ∷ l) f i = f w (inl refl)
-
-pub imp : (a b : Bool) → T (not a || b) → T a → T b
-imp true b t u = t
-imp false b t u = absurd u
 
 length-upto : (n : ℕ) → length (upto n) ≡ n
 unfolding upto
@@ -99,13 +96,13 @@ module _ (n : ℕ) (g : Graph) (k : Good n g) where
 
     served : (v : ℕ) → T (h .vert v) → Serves v (s v)
     served v t =
-        let e = imp (h .vert v) (any n (offers n g h w v)) (all-get n (λ v. not (h .vert v) || any n (offers n g h w v)) (search out) v (f .lives v t .below)) t in
+        let e = imp-get (h .vert v) (any n (offers n g h w v)) (all-get n (λ v. not (h .vert v) || any n (offers n g h w v)) (search out) v (f .lives v t .below)) t in
         let z = any-get n (offers n g h w v) e in
         let p = lowest-passes (offers n g h w v) n (z .0) (z .1) (z .2) .1 in
         record {
           alive = live-of n g (s v) (search out);
           to-w = search out;
-          near = λ y u. imp (h .edge v y) (g .adj (s v) y) (all-get n (λ y. not (h .edge v y) || g .adj (s v) y) (search out) y (f .lives y (f .within v y u .1) .below)) u;
+          near = λ y u. imp-get (h .edge v y) (g .adj (s v) y) (all-get n (λ y. not (h .edge v y) || g .adj (s v) y) (search out) y (f .lives y (f .within v y u .1) .below)) u;
         }
 
     -- an edge of a chosen member: to w, or to an old neighbour of its v

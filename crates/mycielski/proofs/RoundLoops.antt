@@ -1,34 +1,27 @@
 -- W and a round in words, gathered over the vertices of H, lowest first. Assumes nothing.
 use mathlib.Core.Path.{_≡_, refl, sym, ap, ap₂, _∙_, fun-ext, subst}
-use mathlib.Core.Logic.{_⊎_, inl, inr}
 use mathlib.Core.Bool.{Bool, true, false, not, _&&_, _||_}
-use mathlib.Core.List.{List}
-use mathlib.Core.Option.{Option, some, Option·getD}
+use mathlib.Core.Option.{Option, Option·getD}
 use Prim.Native.Nat.{ℕ, zero, _<_}
-use native.Mathlib.Omega.{arith}
 use lib.Dec.{T, eqb}
-use lib.ListN.{length, getD}
-use Rattle.sets.specs.Lists.{all, any, lowest}
+use lib.ListN.{getD}
+use Rattle.sets.specs.Lists.{all, any}
 use Rattle.sets.specs.Set.{has, IsWith, IsWithout, IsMeet, IsLowest}
-use Rattle.sets.proofs.TestLaws.{and-l, and-r, and-t, and-true, or-l, or-r, T→true, T→false, T-ext, all-get, all-make, any-get}
+use Rattle.sets.proofs.TestLaws.{and-l, and-r, and-t, and-true, T→false, T-ext, all-get, all-make, any-get}
 use Rattle.sets.proofs.MemberLaws.{lowest-is}
 use Rattle.sets.proofs.SetLaws.{has-none}
 use Rattle.graphs.specs.Graph.{Graph, live}
 use Rattle.graphs.specs.Held.{view, Held}
 use Rattle.graphs.specs.declared.Node.{Node}
+use Rattle.graphs.proofs.LoopLaws.{or-false}
 use Rattle.cliques.specs.Growth.{Within}
 use Rattle.cliques.proofs.WordLaws.{eqb-turn}
 use Rattle.mycielski.specs.Rounds.{Part, nearAll, ofS, offers, ofW, chosen, tied, extend}
 use Rattle.mycielski.specs.Words.{partOf, Inside, reachable, Tied}
 use Rattle.mycielski.specs.declared.Sub.{Sub}
-use Rattle.mycielski.proofs.DoneLaws.{done, done-none, done-all, within-again, done-more, all-more, any-more, all-none, any-none}
-use Rattle.mycielski.proofs.RoundLaws.{imp}
+use Rattle.mycielski.proofs.DoneLaws.{imp-get, imp-make, done, done-none, done-all, within-again, done-more, all-more, any-more, all-none, any-none}
 use Rattle.mycielski.proofs.SetLoops.{live-below}
 use Rattle.mycielski.proofs.EdgeLoops.{part-ext}
-
-imp-make : (a b : Bool) → (T a → T b) → T (not a || b)
-imp-make true b r = r tt
-imp-make false b r = tt
 
 module _ (h : Node) (k : Held h) (p : Sub) (ins : Inside h p) where
   abbrev g : Graph
@@ -73,7 +66,7 @@ module _ (h : Node) (k : Held h) (p : Sub) (ins : Inside h p) where
           (and-l (live n g x) (all n (λ v. not (has (p .set) v) || any n (offers n g H x v))) t)
           (all-make n (λ v. not (done (p .set) left v) || any n (offers n g H x v))
           (λ v l. imp-make (done (p .set) left v) (any n (offers n g H x v))
-          (λ d. imp (has (p .set) v) (any n (offers n g H x v))
+          (λ d. imp-get (has (p .set) v) (any n (offers n g H x v))
           (all-get n (λ v. not (has (p .set) v) || any n (offers n g H x v)) (and-r (live n g x) (all n (λ v. not (has (p .set) v) || any n (offers n g H x v))) t) v l)
           (and-l (has (p .set) v) (not (has left v)) d))))))
 
@@ -129,7 +122,7 @@ module _ (h : Node) (k : Held h) (p : Sub) (ins : Inside h p) where
       pub offered : T (has (p .set) v) → m ≡ 0 → ⊥
       offered t z =
           let l = live-below h k v (ins .verts v t) in
-          let a = imp (has (p .set) v) (any n (offers n g H w v))
+          let a = imp-get (has (p .set) v) (any n (offers n g H w v))
           (all-get n (λ v. not (has (p .set) v) || any n (offers n g H w v)) (and-r (live n g w) (all n (λ v. not (has (p .set) v) || any n (offers n g H w v))) ok) v l) t in
           let r = any-get n (offers n g H w v) a in
           subst T (has-none (r .0)) (subst (λ c. T (has c (r .0))) z (subst T (sym (offers-is (r .0))) (r .2)))
@@ -146,10 +139,6 @@ module _ (h : Node) (k : Held h) (p : Sub) (ins : Inside h p) where
       pub verts : (x : ℕ) → has (next .set) x ≡ (has (p .set) x || (eqb x w || any n (λ v. done (p .set) left v && eqb x (chosen n g H w v))))
       pub edges : (x y : ℕ)
           → has (getD (next .near) x zero) y ≡ (has (getD (p .near) x zero) y || any n (λ v. done (p .set) left v && (tied n g H w v x y || tied n g H w v y x)))
-
-    or-false : (a : Bool) → (a || false) ≡ a
-    or-false true = refl
-    or-false false = refl
 
     pub extending-start : (s : ℕ) → IsWith (p .set) w s → Extending (record { set = s; near = p .near }) (p .set)
     extending-start s q = record {

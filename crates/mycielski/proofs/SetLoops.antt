@@ -2,8 +2,7 @@
 use mathlib.Core.Path.{_≡_, refl, sym, ap, ap₂, _∙_, subst}
 use mathlib.Core.Bool.{Bool, true, false, not, _&&_, _||_}
 use Prim.Native.Nat.{ℕ, zero, _<_}
-use native.Mathlib.Omega.{arith}
-use lib.Dec.{T, eqb}
+use lib.Dec.{T}
 use lib.ListN.{getD}
 use Rattle.sets.specs.Lists.{all, any}
 use Rattle.sets.specs.Set.{has, IsWithout, IsMeet, IsJoin, IsLowest}

@@ -36,7 +36,7 @@ pub enum Answer {
 
 // A walk on its way: the colours of the best division, its number of groups, the nodes entered, the complete graphs met, and the budget of nodes;
 // out says that it would have had to enter more.
-pub struct State {
+struct State {
     pub best: [u8; 64],
     pub k: usize,
     pub nodes: u64,
@@ -192,7 +192,7 @@ fn explore(h: Node, s: State) -> State
     }
 }
 
-// Refusals 1 to 5.
+// Refusals 1 to 5. Refusal 7 comes next in the order and never arises: there are no more levels of merging than entries (`never-deep`).
 fn admitted(rows: &[u64], room: usize) -> Gate
     ensures { λ r. ⌜ Gated (now (rows .entry)) room r ⌝ }
 {

@@ -1,6 +1,6 @@
 -- `cliques::clique_up_to` meets its contract. The loop's invariant: the best so far, against what the free vertices will open, gives the clique.
 -- The measure: how many vertices are free. Assumes nothing.
-use mathlib.Core.Path.{_≡_, subst}
+use mathlib.Core.Path.{subst}
 use mathlib.Core.Logic.{inl, inr}
 use mathlib.Core.List.{[], _∷_}
 use native.Mathlib.Nat.{le-trans, le-of-eq}

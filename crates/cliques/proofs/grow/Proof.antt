@@ -1,28 +1,23 @@
 -- `cliques::grow` meets its contract. The loop's invariant: what is left to grow, from here, gives the whole's answer. The measure: the rest's size.
 -- Assumes nothing.
-use mathlib.Core.Path.{_≡_, refl, subst}
-use mathlib.Core.List.{List}
-use native.Mathlib.Omega.{arith}
+use mathlib.Core.Path.{subst}
 use borrow.Author.Needs.{needs}
 use Rattle.sets.specs.Set.{size}
-use Rattle.graphs.specs.Held.{view, Held}
-use Rattle.graphs.specs.declared.Node.{Node}
+use Rattle.graphs.specs.Held.{Held}
 use Rattle.cliques.specs.Growth.{Within}
-use Rattle.cliques.specs.declared.Growth.{Growth}
 use Rattle.cliques.proofs.WordLaws.{Turn, turn-start, turn-less, turn-again, turn-end}
 use Rattle.cliques.proofs.grow.Statement.{statement}
 use Rattle.cliques.proofs.grow.Tie as tie
 
 abbrev Inv-loop : tie.InvT-loop
-Inv-loop left rows set₀ near₀ rest₀ set near rest =
-    (h : Node) → (k : Held h) → h .rows ≡ rows → Within left near₀ → Within near₀ (h .live)
-    → Turn h k (record { set = set₀; near = near₀ }) left (record { set = set; near = near }) rest
+Inv-loop left h set₀ near₀ rest₀ set near rest =
+    (k : Held h) → Within left near₀ → Within near₀ (h .live) → Turn h k (record { set = set₀; near = near₀ }) left (record { set = set; near = near }) rest
 
 abbrev μ-loop : tie.MeasureT-loop
-μ-loop left rows set₀ near₀ rest₀ set near rest = size 64 rest
+μ-loop left h set₀ near₀ rest₀ set near rest = size 64 rest
 
 loop-holds : tie.Need-loop-holds Inv-loop μ-loop
-loop-holds c = λ h k e a b. turn-start h k (c .before .args .c) (c .before .args .left) a b
+loop-holds c = λ k a b. turn-start (c .args .t1) k (c .args .c) (c .args .left) a b
 
 lowest-requires : tie.Need-lowest-requires Inv-loop μ-loop
 lowest-requires c κs = search needs
@@ -30,8 +25,8 @@ lowest-requires c κs = search needs
 mul-row : tie.Need-mul-row Inv-loop μ-loop
 mul-row c = search needs
 
-array-read-row : tie.Need-array-read-row Inv-loop μ-loop
-array-read-row c = search needs
+element-copy-out-row : tie.Need-element-copy-out-row Inv-loop μ-loop
+element-copy-out-row c = search needs
 
 with-requires : tie.Need-with-requires Inv-loop μ-loop
 with-requires c κs = search needs
@@ -44,29 +39,28 @@ meet-requires-2 c κs = search needs
 
 loop-less : tie.Need-loop-less Inv-loop μ-loop
 loop-less c =
-    let b = c .before .before .before .before .before in
-    let a = b .before .before in
-    turn-less (a .args .h) (a .pre .0) (a .args .c) (a .args .left) (record { set = b .loop .set; near = b .loop .near }) (b .loop .rest)
-    (c .before .before .before .lowest .result) (c .before .before .with .result) (c .before .meet .result) (c .meet2 .result)
-    (b .loop .inv (a .args .h) (a .pre .0) refl (a .pre .1 .0) (a .pre .1 .1)) (c .before .before .before .lowest .ensures)
+    let b = c .before .before .before .before .before .before in
+    let a = b .before in
+    turn-less (a .args .t1) (a .pre .0) (a .args .c) (a .args .left) (record { set = b .loop .set; near = b .loop .near }) (b .loop .rest)
+    (c .before .before .before .before .lowest .result) (c .before .before .with .result) (c .before .meet .result) (c .meet2 .result)
+    (b .loop .inv (a .pre .0) (a .pre .1 .0) (a .pre .1 .1)) (c .before .before .before .before .lowest .ensures)
     (c .before .before .with .ensures) (c .before .meet .ensures) (c .meet2 .ensures)
 
 loop-again : tie.Need-loop-again Inv-loop μ-loop
 loop-again c =
-    let b = c .before .before .before .before .before in
-    let a = b .before .before in
-    λ h k e p q.
-    turn-again h k (a .args .c) (a .args .left) (record { set = b .loop .set; near = b .loop .near }) (b .loop .rest)
-    (c .before .before .before .lowest .result) (c .before .before .with .result) (c .before .meet .result) (c .meet2 .result)
-    (b .loop .inv h k e p q) (c .before .before .before .lowest .ensures) (c .before .before .with .ensures)
-    (rw e (c .before .meet .ensures)) (rw e (c .meet2 .ensures))
+    let b = c .before .before .before .before .before .before in
+    let a = b .before in
+    λ k p q.
+    turn-again (a .args .t1) k (a .args .c) (a .args .left) (record { set = b .loop .set; near = b .loop .near }) (b .loop .rest)
+    (c .before .before .before .before .lowest .result) (c .before .before .with .result) (c .before .meet .result) (c .meet2 .result)
+    (b .loop .inv k p q) (c .before .before .before .before .lowest .ensures) (c .before .before .with .ensures) (c .before .meet .ensures) (c .meet2 .ensures)
 
 returns : tie.Need-returns Inv-loop μ-loop
 returns c =
-    let a = c .before .before .before in
-    turn-end (a .args .h) (a .pre .0) (a .args .c) (a .args .left) (record { set = c .before .loop .set; near = c .before .loop .near })
-    (subst (λ r. Turn (a .args .h) (a .pre .0) (a .args .c) (a .args .left) (record { set = c .before .loop .set; near = c .before .loop .near }) r)
-    (c .loop-test .left) (c .before .loop .inv (a .args .h) (a .pre .0) refl (a .pre .1 .0) (a .pre .1 .1)))
+    let a = c .before .before in
+    turn-end (a .args .t1) (a .pre .0) (a .args .c) (a .args .left) (record { set = c .before .loop .set; near = c .before .loop .near })
+    (subst (λ r. Turn (a .args .t1) (a .pre .0) (a .args .c) (a .args .left) (record { set = c .before .loop .set; near = c .before .loop .near }) r)
+    (c .loop-test .left) (c .before .loop .inv (a .pre .0) (a .pre .1 .0) (a .pre .1 .1)))
 
 pub grow-spec : {M : Type 1} → statement M
 grow-spec =
@@ -77,7 +71,7 @@ grow-spec =
     loop-holds
     lowest-requires
     mul-row
-    array-read-row
+    element-copy-out-row
     with-requires
     meet-requires
     meet-requires-2

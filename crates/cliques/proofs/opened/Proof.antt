@@ -1,6 +1,6 @@
 -- `cliques::opened` meets its contract. Assumes nothing.
 use mathlib.Core.Path.{subst}
-use mathlib.Core.List.{List, [], _∷_}
+use mathlib.Core.List.{[], _∷_}
 use Rattle.graphs.specs.Held.{view}
 use Rattle.cliques.specs.Growth.{Grown}
 use Rattle.cliques.proofs.WordLaws.{grown-alone}
@@ -12,8 +12,8 @@ use Rattle.cliques.proofs.opened.Tie as tie
 mul-meet : tie.Need-mul-meet
 mul-meet c = search needs
 
-array-read-meet : tie.Need-array-read-meet
-array-read-meet c = search needs
+element-copy-out-meet : tie.Need-element-copy-out-meet
+element-copy-out-meet c = search needs
 
 meet-requires : tie.Need-meet-requires
 meet-requires c κs = search needs
@@ -33,8 +33,8 @@ grow-requires c κs =
     let m = c .before .before .before in (
       a .pre .0,
       (
-        left-near (a .args .h) (a .pre .0) (a .args .s) (m .meet .result) (c .before .below .result) (c .less .result) (a .pre .1 .1) (m .meet .ensures) (c .before .below .ensures) (c .less .ensures),
-        near-lives (a .args .h) (a .pre .0) (a .args .s) (m .meet .result) (c .before .below .result) (c .less .result) (a .pre .1 .1) (m .meet .ensures) (c .before .below .ensures) (c .less .ensures),
+        left-near (a .args .t1) (a .pre .0) (a .args .s) (m .meet .result) (c .before .below .result) (c .less .result) (a .pre .1 .1) (m .meet .ensures) (c .before .below .ensures) (c .less .ensures),
+        near-lives (a .args .t1) (a .pre .0) (a .args .s) (m .meet .result) (c .before .below .result) (c .less .result) (a .pre .1 .1) (m .meet .ensures) (c .before .below .ensures) (c .less .ensures),
       ),
     )
 
@@ -42,7 +42,7 @@ returns : tie.Need-returns
 returns c =
     let a = c .before .before .before .before .before .before in
     let m = c .before .before .before .before in
-    let h = a .args .h in
+    let h = a .args .t1 in
     let alone = grown-alone h (a .pre .0) (a .args .s) (c .before .before .before .with .result) (m .meet .result) (a .pre .1 .1) (c .before .before .before .with .ensures) (m .meet .ensures) in
     let is = opened-is h (a .pre .0) (a .args .s) (m .meet .result) (c .before .before .below .result) (c .before .less .result) (a .pre .1 .1) (m .meet .ensures) (c .before .before .below .ensures) (c .before .less .ensures) in
     subst (λ l. Grown (h .n) (view h) l (c .grow .result)) is (c .grow .ensures (a .args .s ∷ []) alone)
@@ -52,7 +52,7 @@ opened-spec =
     tie.close
     (tie.spec
     mul-meet
-    array-read-meet
+    element-copy-out-meet
     meet-requires
     with-requires
     below-requires

@@ -1,8 +1,8 @@
 -- `mycielski::bound_up_to` meets its contract. The loop's invariant: H and the bound so far are those of a round, and the rounds that are left give
 -- the whole's bound. The measure: what the bound lacks of what is enough. Assumes nothing.
-use mathlib.Core.Path.{_≡_, sym, subst}
+use mathlib.Core.Path.{sym, subst}
 use Prim.Native.Nat.{_-_}
-use native.Mathlib.Nat.{le-trans, le-of-eq}
+use native.Mathlib.Nat.{le-of-eq}
 use native.Mathlib.Numerals.{add-one}
 use native.Mathlib.Omega.{arith}
 use borrow.Author.Needs.{needs}

@@ -1,6 +1,6 @@
 -- `mycielski::extended` meets its contract. The loop's invariant: what is done of H has its chosen members, with their edges. The measure: what is
 -- left. Assumes nothing.
-use mathlib.Core.Path.{_≡_, sym, subst}
+use mathlib.Core.Path.{_≡_, subst}
 use Prim.Native.Nat.{ℕ}
 use lib.Dec.{T}
 use borrow.Author.Needs.{needs}
@@ -8,7 +8,7 @@ use Rattle.sets.specs.Set.{has, size, IsWith}
 use Rattle.graphs.specs.Held.{view, Held}
 use Rattle.mycielski.specs.Rounds.{nearAll, ofW}
 use Rattle.mycielski.specs.Words.{partOf, Inside}
-use Rattle.mycielski.proofs.DoneLaws.{left-less}
+use Rattle.graphs.proofs.LoopLaws.{left-falls}
 use Rattle.mycielski.proofs.RoundLoops.{offered, Extending, extending-start, extending-again, extending-end}
 use Rattle.mycielski.proofs.extended.Statement.{statement}
 use Rattle.mycielski.proofs.extended.Tie as tie
@@ -73,8 +73,7 @@ loop-less c =
     let q = c .before .before .before .before .before .before .before .before in
     let b = q .before .before in
     let a = b .before .before .before .before in
-    left-less (a .args .p .set) (b .loop .left) (q .lowest .result) (c .without .result) (b .loop .inv (a .pre .0) (a .pre .1 .0) (a .pre .1 .1 .1) .within)
-    (q .lowest .ensures) (c .without .ensures)
+    left-falls (b .loop .left) (q .lowest .result) (c .without .result) (q .lowest .ensures) (c .without .ensures)
 
 loop-again : tie.Need-loop-again Inv-loop μ-loop
 loop-again c =

@@ -1,13 +1,12 @@
 -- `mycielski::reached` meets its contract. The loop's invariant: r has the vertices that are adjacent to some that is done. The measure: what is
 -- left. Assumes nothing.
 use mathlib.Core.Path.{_≡_, refl, subst}
-use native.Mathlib.Omega.{arith}
 use borrow.Author.Needs.{needs}
 use Rattle.sets.specs.Set.{size}
 use Rattle.graphs.specs.Held.{Held}
 use Rattle.graphs.specs.declared.Node.{Node}
 use Rattle.cliques.specs.Growth.{Within}
-use Rattle.mycielski.proofs.DoneLaws.{left-less}
+use Rattle.graphs.proofs.LoopLaws.{left-falls}
 use Rattle.mycielski.proofs.SetLoops.{Reached, reached-start, reached-again, reached-end}
 use Rattle.mycielski.proofs.reached.Statement.{statement}
 use Rattle.mycielski.proofs.reached.Tie as tie
@@ -41,7 +40,7 @@ loop-less c =
     let b = c .before .before .before .before in
     let a = b .before .before in
     let i = b .loop .inv (a .args .h) (a .pre .0) refl (a .pre .1) in
-    left-less (a .args .s) (b .loop .left) (c .before .before .lowest .result) (c .without .result) (i .within) (c .before .before .lowest .ensures) (c .without .ensures)
+    left-falls (b .loop .left) (c .before .before .lowest .result) (c .without .result) (c .before .before .lowest .ensures) (c .without .ensures)
 
 loop-again : tie.Need-loop-again Inv-loop μ-loop
 loop-again c =

@@ -1,10 +1,10 @@
 -- `mycielski::tied` meets its contract. The loop's invariant: the edges to what is done are laid. The measure: what is left. Assumes nothing.
-use mathlib.Core.Path.{_≡_, refl, _∙_, subst}
+use mathlib.Core.Path.{_≡_, _∙_, subst}
 use lib.ListN.{length, set, length-set}
 use native.Mathlib.Omega.{arith}
 use borrow.Author.Needs.{needs}
 use Rattle.sets.specs.Set.{size}
-use Rattle.mycielski.proofs.DoneLaws.{left-less}
+use Rattle.graphs.proofs.LoopLaws.{left-falls}
 use Rattle.mycielski.proofs.EdgeLoops.{Tying, tying-start, tying-again, tying-end}
 use Rattle.mycielski.proofs.tied.Statement.{statement}
 use Rattle.mycielski.proofs.tied.Tie as tie
@@ -61,8 +61,7 @@ loop-less : tie.Need-loop-less Inv-loop μ-loop
 loop-less c =
     let b = c .before .before .before .before in
     let a = b .before .before .before in
-    left-less (a .args .ys) (b .loop .left) (c .before .before .lowest .result) (c .without .result) (b .loop .inv .within) (c .before .before .lowest .ensures)
-    (c .without .ensures)
+    left-falls (b .loop .left) (c .before .before .lowest .result) (c .without .result) (c .before .before .lowest .ensures) (c .without .ensures)
 
 loop-again : tie.Need-loop-again Inv-loop μ-loop
 loop-again c =

@@ -1,9 +1,8 @@
 -- `mycielski::whole` meets its contract. The loop's invariant: the edges of what is done are laid. The measure: what is left. Assumes nothing.
-use mathlib.Core.Path.{_≡_, refl, subst}
-use native.Mathlib.Omega.{arith}
+use mathlib.Core.Path.{subst}
 use borrow.Author.Needs.{needs}
 use Rattle.sets.specs.Set.{size}
-use Rattle.mycielski.proofs.DoneLaws.{left-less}
+use Rattle.graphs.proofs.LoopLaws.{left-falls}
 use Rattle.mycielski.proofs.EdgeLoops.{Whole, whole-start, whole-again, whole-end}
 use Rattle.mycielski.proofs.whole.Statement.{statement}
 use Rattle.mycielski.proofs.whole.Tie as tie
@@ -35,8 +34,7 @@ without-requires-2 c κs = search needs
 loop-less : tie.Need-loop-less Inv-loop μ-loop
 loop-less c =
     let b = c .before .before .before .before in
-    left-less (b .before .args .c) (b .loop .left) (c .before .before .lowest .result) (c .without2 .result) (b .loop .inv .within) (c .before .before .lowest .ensures)
-    (c .without2 .ensures)
+    left-falls (b .loop .left) (c .before .before .lowest .result) (c .without2 .result) (c .before .before .lowest .ensures) (c .without2 .ensures)
 
 loop-again : tie.Need-loop-again Inv-loop μ-loop
 loop-again c =

@@ -1,6 +1,6 @@
 -- `mycielski::witnesses` meets its contract. The loop's invariant: ws has the vertices that are adjacent, for each v that is done, to some member of
 -- S(v). The measure: what is left. Assumes nothing.
-use mathlib.Core.Path.{_≡_, subst}
+use mathlib.Core.Path.{subst}
 use Prim.Native.Nat.{_-_, _^_}
 use lib.Bits.{bitAnd}
 use borrow.Author.Needs.{needs}
@@ -8,7 +8,7 @@ use Rattle.sets.specs.Set.{size}
 use Rattle.sets.proofs.SetLaws.{without-is}
 use Rattle.graphs.specs.Held.{Held}
 use Rattle.mycielski.specs.Words.{Inside}
-use Rattle.mycielski.proofs.DoneLaws.{left-less}
+use Rattle.graphs.proofs.LoopLaws.{left-falls}
 use Rattle.mycielski.proofs.RoundLoops.{serving-live, Witness, witness-start, witness-more, witness-end, witness-none}
 use Rattle.mycielski.proofs.witnesses.Statement.{statement}
 use Rattle.mycielski.proofs.witnesses.Tie as tie
@@ -20,7 +20,7 @@ abbrev μ-loop : tie.MeasureT-loop
 μ-loop h near ws₀ left₀ ws left = size 64 left
 
 loop-holds : tie.Need-loop-holds Inv-loop μ-loop
-loop-holds c = λ k i. witness-start (c .before .args .h) k (c .before .args .p) i
+loop-holds c = λ k i. witness-start (c .before .args .h) k _ i
 
 lowest-requires : tie.Need-lowest-requires Inv-loop μ-loop
 lowest-requires c κs = search needs
@@ -64,7 +64,7 @@ loop-less c =
     let q = c .before .before .before .before .before in
     let b = q .before .before in
     let a = b .before .before in
-    left-less (a .args .p .set) (b .loop .left) (q .lowest .result) (c .without .result) (b .loop .inv (a .pre .0) (a .pre .1) .within) (q .lowest .ensures) (c .without .ensures)
+    left-falls (b .loop .left) (q .lowest .result) (c .without .result) (q .lowest .ensures) (c .without .ensures)
 
 loop-again : tie.Need-loop-again Inv-loop μ-loop
 loop-again c =

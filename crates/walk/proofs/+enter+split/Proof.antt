@@ -1,3 +1,5 @@
+-- `walk::enter` and `walk::split` meet their contracts: a cycle of two functions, whose measures are twice the live vertices, and one more where a node
+-- is entered. `split` loops on the separations, each of which leaves fewer pairs open. Assumes nothing.
 use mathlib.Core.Path.{_≡_, refl, sym, ap, _∙_}
 use mathlib.Core.Option.{some}
 use Prim.Native.Nat.{ℕ, _+_, _*_, _<_}
