@@ -1,0 +1,111 @@
+-- What was found, handed over: an accepted pair's entries fit the lent bytes, and a refusal has none to write.
+use Prim.Native.Nat.{ℕ, _+_, _≤_, _<_}
+use mathlib.Core.Path.{_≡_, refl, sym, ap, subst, _∙_}
+use mathlib.Core.List.{List, _++_}
+use mathlib.Core.Bool.{Bool, cond, _||_}
+use native.Mathlib.Omega.{arith}
+use borrow.Author.Tests.{leb-true, le-leb, lt-leb, eq-eqb, ne-eqb}
+use denote.Ref.{RefT, now}
+use lib.Dec.{leb}
+use lib.ListN.{length, take, drop}
+use Rattle.sets.specs.Lists.{all}
+use Rattle.clashes.specs.Matrix.{matrix}
+use Rattle.lines.specs.Text.{Text, done, unended, ended, linesOf}
+use Rattle.lines.proofs.Basics.{cond-cases}
+use Rattle.lists.specs.Read.{readOf}
+use Rattle.lists.specs.declared.Fault.{Fault}
+use Rattle.lists.specs.declared.Found.{Found}
+use Rattle.lists.specs.declared.Reading.{Reading}
+use Rattle.lists.specs.declared.Reading.the-variants.{Read, Refused as Unreadable}
+use Rattle.lists.proofs.Fold.{Bounded, read-few}
+use Rattle.sheets.specs.Check.{noColours, without, refused, stepOf, met, finish, none, after, checkFrom, start, sheetOf, against, checkOf}
+use Rattle.sheets.specs.Promise.{numbersOf, writtenOf, CheckPromise, holderOf, ShownOf, PreviewPromise}
+use Rattle.sheets.specs.declared.Numbers.{Numbers}
+use Rattle.sheets.specs.declared.SheetFault.{SheetFault}
+use Rattle.sheets.specs.declared.Checked.the-variants.{Unread, Short}
+use Rattle.sheets.specs.declared.Outcome.{Outcome}
+use Rattle.sheets.specs.declared.Progress.{Progress}
+use Rattle.sheets.specs.declared.Step.{Step}
+use Rattle.sheets.specs.declared.Step.the-variants.{Stop, Count, Place}
+
+pub record Fits (room : ℕ) (o : Outcome) : Type 0 where
+  pub few : o .entries ≤ 64
+  pub fits : o .entries ≤ room
+  -- what is written is a copy of so many bytes, accepted or not
+  pub copied : (old : List ℕ) → take (o .entries) (o .colours) ++ drop (o .entries) old ≡ writtenOf o old
+
+refused-fits : (room : ℕ) (f : SheetFault) (k : ℕ) → Fits room (refused f k)
+refused-fits room f k = record { few = omega arith; fits = omega arith; copied = λ old. refl }
+
+module _ (room n : ℕ) (few : n ≤ 64) (fits : n ≤ room) (clash : ℕ → ℕ → Bool) where
+  finish-fits : (p : Progress) (m w : ℕ → Bool) (g : List ℕ) (k : ℕ) → Fits room (finish n p m w g k)
+  finish-fits p m w g k =
+      cond-cases (Fits room) (met p) _ _
+      (λ _. cond-cases (Fits room) (all n (λ j. w j || m j)) _ _ (λ _. record { few = few; fits = fits; copied = λ old. refl }) (λ _. refused-fits room _ k))
+      (λ _. refused-fits room _ k)
+
+  from-fits : (t : Text) (k : ℕ) (p : Progress) (m w : ℕ → Bool) (g : List ℕ) → Fits room (checkFrom t n clash k p m w g)
+  from-fits done k p m w g = finish-fits p m w g k
+  from-fits (unended l) k p m w g = cond-cases (Fits room) (met p) _ _ (λ _. refused-fits room _ k) (λ _. refused-fits room _ k)
+  from-fits (ended l t) k p m w g = go (stepOf n clash p m w l) (from-fits t (k + 1))
+    where
+      go : (st : Step) → ((p : Progress) (m w : ℕ → Bool) (g : List ℕ) → Fits room (checkFrom t n clash (k + 1) p m w g)) → Fits room (after st k m w g (checkFrom t n clash (k + 1)))
+      go (Stop f) r = refused-fits room f k
+      go (Count q) r = r q _ _ g
+      go (Place q i c) r = r q _ w _
+
+  sheet-fits : (s : List ℕ) → Fits room (sheetOf n clash s)
+  sheet-fits s = cond-cases (Fits room) (leb (length s) 65536) _ _ (λ _. from-fits (linesOf s) 1 start none none noColours) (λ _. refused-fits room _ 0)
+
+pub check-fits : (list s : List ℕ) (room : ℕ) → Fits room (checkOf list s room)
+check-fits list s room = go (readOf list 64 .answer) (read-few list 64)
+  where
+    go : (a : Reading) → Bounded 64 a → Fits room (against a (readOf list 64 .rows) s room)
+    go (Unreadable f k) b = record { few = omega arith; fits = omega arith; copied = λ old. refl }
+    go (Read n) b =
+        cond-cases (Fits room) (leb n room) _ _ (λ e. sheet-fits room n b (leb-true n room e) (matrix (readOf list 64 .rows)) s)
+        (λ _. record { few = omega arith; fits = omega arith; copied = λ old. refl })
+
+-- the promise of `check_sheet`, from what was found and copied
+pub check-handed : (list s old new : List ℕ) (o : Outcome) → o ≡ checkOf list s (length old) → new ≡ take (o .entries) (o .colours) ++ drop (o .entries) old
+    → CheckPromise list s old (o .answer) new
+check-handed list s old new o e w = record {
+  answer = ap (λ (x : Outcome). x .answer) e;
+  lent = w ∙ ap (λ (x : Outcome). take (x .entries) (x .colours) ++ drop (x .entries) old) e ∙ check-fits list s (length old) .copied old;
+}
+
+-- the part that is shown, from the numbers of the answer
+module _ (list s : RefT (List ℕ)) (room : ℕ) (o : Outcome) (m : Numbers) (r : RefT (List ℕ)) (e : o ≡ checkOf (now list) (now s) room) (f : m ≡ numbersOf (o .answer)) where
+  numbers-are : numbersOf (checkOf (now list) (now s) room .answer) ≡ m
+  numbers-are = sym (f ∙ ap (λ (x : Outcome). numbersOf (x .answer)) e)
+
+  pub preview-list : m .text ≡ 1 → ShownOf list (m .line) r → PreviewPromise list s room r
+  preview-list t x =
+      subst (λ (y : Numbers). ShownOf (holderOf y list s) (y .line) r) (sym numbers-are)
+      (subst (λ (b : Bool). ShownOf (cond b list s) (m .line) r) (sym (eq-eqb (m .text) 1 t)) x)
+
+  pub preview-sheet : (m .text ≡ 1 → ⊥) → ShownOf s (m .line) r → PreviewPromise list s room r
+  preview-sheet t x =
+      subst (λ (y : Numbers). ShownOf (holderOf y list s) (y .line) r) (sym numbers-are)
+      (subst (λ (b : Bool). ShownOf (cond b list s) (m .line) r) (sym (ne-eqb (m .text) 1 t)) x)
+
+-- ---- the ways out of `check`
+
+module _ (list s : List ℕ) (room : ℕ) (f : Found) (e : f ≡ readOf list 64) where
+  answer-is : {a : Reading} → f .answer ≡ a → readOf list 64 .answer ≡ a
+  answer-is x = sym (ap (λ (y : Found). y .answer) e) ∙ x
+
+  pub read-small : (n : ℕ) → f .answer ≡ Read n → n ≤ 64
+  read-small n x = subst (Bounded 64) (answer-is x) (read-few list 64)
+
+  pub check-unread : (w : Fault) (k : ℕ) → f .answer ≡ Unreadable w k → checkOf list s room ≡ without (Unread w k)
+  check-unread w k x = ap (λ (a : Reading). against a (readOf list 64 .rows) s room) (answer-is x)
+
+  pub check-few : (n : ℕ) → f .answer ≡ Read n → room < n → checkOf list s room ≡ without Short
+  check-few n x l = ap (λ (a : Reading). against a (readOf list 64 .rows) s room) (answer-is x) ∙ rw (lt-leb n room l)
+
+  pub check-read : (n : ℕ) → f .answer ≡ Read n → n ≤ room → checkOf list s room ≡ sheetOf n (matrix (f .rows)) s
+  check-read n x l =
+      ap (λ (a : Reading). against a (readOf list 64 .rows) s room) (answer-is x)
+      ∙ ap (λ (b : Bool). cond b (sheetOf n (matrix (readOf list 64 .rows)) s) (without Short)) (le-leb n room l)
+      ∙ sym (ap (λ (y : Found). sheetOf n (matrix (y .rows)) s) e)

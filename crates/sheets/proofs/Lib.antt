@@ -1,0 +1,5 @@
+pub mod Sets
+pub mod Steps
+pub mod Fold
+pub mod Answers
+pub mod Unique

@@ -1,0 +1,3 @@
+pub mod Check
+pub mod Sound
+pub mod Promise

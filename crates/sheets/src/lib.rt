@@ -1,0 +1,442 @@
+// Sitting sheets: checked against a clash list, with the line at fault shown as a part of the text that holds it.
+// A check gathers the group numbers aside and lends nothing back before both texts are judged. One pass over each text.
+ghost use mathlib.Core.Path.{_≡_};
+ghost use mathlib.Core.List.{_++_};
+ghost use Prim.Native.Nat.{_≤_, _<_};
+ghost use lib.Dec.{T};
+ghost use lib.ListN.{length, take, drop};
+ghost use Rattle.sets.specs.Set.{has as member};
+ghost use Rattle.clashes.specs.Matrix.{matrix};
+ghost use Rattle.sheets.specs.Check.{behindOf, groupsOf, sizeOf, placed, memberOf, stepOf, met as metOf, cut, finish, sheetOf, checkOf, without as withoutAny, refused as refusedAt};
+ghost use Rattle.sheets.specs.Sound.{Sound, Within};
+ghost use Rattle.lists.specs.Promise.{numberOf as listNumberOf};
+ghost use Rattle.sheets.specs.Promise.{numberOf, numbersOf, CheckPromise, ShownOf, PreviewPromise};
+
+// Document 01's refusals of a sheet, 18 and 30 to 37, by their names.
+pub enum SheetFault {
+    Long,
+    Line,
+    Member,
+    Order,
+    Twice,
+    Clash,
+    Ends,
+    Missing,
+    Extra,
+}
+
+// Accepted, with k; refused for the list, with its own refusal and line; too few colour bytes; or refused for the sheet, with
+// its line (0 where none is named).
+pub enum Checked {
+    Accepted(usize),
+    Unread(lists::Fault, usize),
+    Short,
+    Refused(SheetFault, usize),
+}
+
+// What a check found: the answer, and how many entries an accepted pair has and the group number of each (else 0).
+pub struct Outcome {
+    pub answer: Checked,
+    pub entries: usize,
+    pub colours: [u8; 64],
+}
+
+// Document 01's numbers of an answer; those that it does not name are 0. Which text is at fault: 1 the list, 2 the sheet.
+pub struct Numbers {
+    pub number: usize,
+    pub line: usize,
+    pub groups: usize,
+    pub text: usize,
+}
+
+// What is known of the counts after some lines (specs/Check.antt).
+pub struct Progress {
+    pub begun: bool,
+    pub left: usize,
+    pub need: usize,
+    pub opened: usize,
+    pub fresh: bool,
+    pub first: usize,
+    pub floor: usize,
+}
+
+// What a line does: a fault, a count, or a member, with its group's number.
+pub enum Step {
+    Stop(SheetFault),
+    Count(Progress),
+    Place(Progress, usize, u8),
+}
+
+// The longest sheet that is checked.
+const LONGEST: usize = 65536;
+
+// The number behind the word `w`, where the two are the whole line.
+fn behind(s: &[u8], w: &[u8]) -> lines::Alone
+    ensures { λ r. ⌜ r ≡ behindOf (now (w .entry)) (now (s .entry)) ⌝ }
+{
+    if lines::begins(s, w) {
+        let at = w.len();
+        return lines::one(&s[at..]);
+    }
+    lines::Alone::Other
+}
+
+// The first line: "groups K".
+fn groups_line(a: lines::Alone) -> Step
+    ensures { λ r. ⌜ r ≡ groupsOf a ⌝ }
+{
+    match a {
+        lines::Alone::Other => Step::Stop(SheetFault::Line),
+        lines::Alone::Only(k) => Step::Count(Progress {
+            begun: true,
+            left: k,
+            need: 0,
+            opened: 0,
+            fresh: false,
+            first: 0,
+            floor: 0,
+        }),
+    }
+}
+
+// A size, where groups are to come.
+fn size_line(p: Progress, a: lines::Alone) -> Step
+    requires { ⌜ (1 ≤ p .left) × (p .opened ≤ 64) ⌝ }
+    ensures { λ r. ⌜ r ≡ sizeOf p a ⌝ }
+{
+    match a {
+        lines::Alone::Other => Step::Stop(SheetFault::Line),
+        lines::Alone::Only(s) => {
+            if s < 1 {
+                return Step::Stop(SheetFault::Line);
+            }
+            Step::Count(Progress {
+                begun: true,
+                left: p.left - 1,
+                need: s,
+                opened: p.opened + 1,
+                fresh: true,
+                first: p.first,
+                floor: p.first,
+            })
+        }
+    }
+}
+
+// The counts after the member u.
+fn with_member(p: Progress, u: usize) -> Progress
+    requires { ⌜ 1 ≤ p .need ⌝ }
+    ensures { λ r. ⌜ r ≡ placed p u ⌝ }
+{
+    if p.fresh {
+        return Progress {
+            begun: true,
+            left: p.left,
+            need: p.need - 1,
+            opened: p.opened,
+            fresh: false,
+            first: u,
+            floor: u,
+        };
+    }
+    Progress {
+        begun: true,
+        left: p.left,
+        need: p.need - 1,
+        opened: p.opened,
+        fresh: false,
+        first: p.first,
+        floor: u,
+    }
+}
+
+// A member, where members are to come: 30 to 34 in this order.
+fn member_line(
+    rows: &[u64],
+    n: usize,
+    p: Progress,
+    mates: u64,
+    earlier: u64,
+    a: lines::Alone,
+) -> Step
+    requires { ⌜ (n ≤ 64) × (n ≤ length (now rows)) × (1 ≤ p .need) × Sound p × Within n mates ⌝ }
+    ensures { λ r. ⌜ r ≡ memberOf n (matrix (now (rows .entry))) p (member mates) (member earlier) a ⌝ }
+{
+    let lines::Alone::Only(u) = a else {
+        return Step::Stop(SheetFault::Line);
+    };
+    if u < 1 {
+        return Step::Stop(SheetFault::Member);
+    }
+    if n < u {
+        return Step::Stop(SheetFault::Member);
+    }
+    if u <= p.floor {
+        return Step::Stop(SheetFault::Order);
+    }
+    let i = u - 1;
+    if sets::has(earlier, i) {
+        return Step::Stop(SheetFault::Twice);
+    }
+    if sets::meet(mates, rows[i]) != 0 {
+        return Step::Stop(SheetFault::Clash);
+    }
+    let g = (p.opened - 1) as u8;
+    Step::Place(with_member(p, u), i, g)
+}
+
+// What a line does, by its place.
+fn line_step(rows: &[u64], n: usize, p: Progress, mates: u64, earlier: u64, l: &[u8]) -> Step
+    requires { ⌜ (n ≤ 64) × (n ≤ length (now rows)) × Sound p × Within n mates ⌝ }
+    ensures { λ r. ⌜ r ≡ stepOf n (matrix (now (rows .entry))) p (member mates) (member earlier) (now (l .entry)) ⌝ }
+{
+    if p.begun {
+        if 1 <= p.need {
+            return member_line(rows, n, p, mates, earlier, lines::one(l));
+        }
+        if 1 <= p.left {
+            return size_line(p, behind(l, b"size "));
+        }
+        return Step::Stop(SheetFault::Extra);
+    }
+    groups_line(behind(l, b"groups "))
+}
+
+// Whether all counts are met.
+fn met(p: Progress) -> bool
+    ensures { λ r. ⌜ r ≡ metOf p ⌝ }
+{
+    if p.begun {
+        if 1 <= p.need {
+            return false;
+        }
+        if 1 <= p.left {
+            return false;
+        }
+        return true;
+    }
+    false
+}
+
+// A refusal has no group numbers.
+fn without(answer: Checked) -> Outcome
+    ensures { λ r. ⌜ r ≡ withoutAny answer ⌝ }
+{
+    Outcome {
+        answer,
+        entries: 0,
+        colours: [0; 64],
+    }
+}
+
+fn refused(why: SheetFault, line: usize) -> Outcome
+    ensures { λ r. ⌜ r ≡ refusedAt why line ⌝ }
+{
+    without(Checked::Refused(why, line))
+}
+
+// A last line that is not ended: 37 or 30.
+fn unended(p: Progress, line: usize) -> Outcome
+    ensures { λ r. ⌜ r ≡ cut p line ⌝ }
+{
+    if met(p) {
+        return refused(SheetFault::Extra, line);
+    }
+    refused(SheetFault::Line, line)
+}
+
+// At the sheet's end: 35, 36, or accepted.
+fn ended(n: usize, p: Progress, mates: u64, earlier: u64, colours: [u8; 64], line: usize) -> Outcome
+    requires { ⌜ n ≤ 64 ⌝ }
+    ensures { λ r. ⌜ r ≡ finish n p (member mates) (member earlier) colours line ⌝ }
+{
+    if met(p) {
+        if sets::is_subset(sets::below(n), sets::join(earlier, mates)) {
+            return Outcome {
+                answer: Checked::Accepted(p.opened),
+                entries: n,
+                colours,
+            };
+        }
+        return refused(SheetFault::Missing, line);
+    }
+    refused(SheetFault::Ends, line)
+}
+
+// Checks a sheet against the rows of a list of n entries.
+pub fn check_lines(rows: &[u64], n: usize, sheet: &[u8]) -> Outcome
+    requires { ⌜ (n ≤ 64) × (n ≤ length (now rows)) ⌝ }
+    ensures { λ r. ⌜ r ≡ sheetOf n (matrix (now (rows .entry))) (now (sheet .entry)) ⌝ }
+{
+    if LONGEST < sheet.len() {
+        return refused(SheetFault::Long, 0);
+    }
+    let mut p = Progress {
+        begun: false,
+        left: 0,
+        need: 0,
+        opened: 0,
+        fresh: false,
+        first: 0,
+        floor: 0,
+    };
+    let mut mates: u64 = 0;
+    let mut earlier: u64 = 0;
+    let mut colours = [0u8; 64];
+    let mut at: usize = 0;
+    let mut line: usize = 1;
+    while at < sheet.len() {
+        let e = lines::line_end(sheet, at);
+        if sheet.len() <= e {
+            return unended(p, line);
+        }
+        match line_step(rows, n, p, mates, earlier, &sheet[at..e]) {
+            Step::Stop(why) => {
+                return refused(why, line);
+            }
+            Step::Count(q) => {
+                p = q;
+                earlier = sets::join(earlier, mates);
+                mates = 0;
+            }
+            Step::Place(q, i, g) => {
+                p = q;
+                mates = sets::with(mates, i);
+                colours[i] = g;
+            }
+        }
+        at = e + 1;
+        line += 1;
+    }
+    ended(n, p, mates, earlier, colours, line)
+}
+
+// Checks a sheet against a clash text, for so many lent colour bytes, and hands the group numbers over by value.
+pub fn check(list: &[u8], sheet: &[u8], room: usize) -> Outcome
+    ensures { λ r. ⌜ r ≡ checkOf (now (list .entry)) (now (sheet .entry)) room ⌝ }
+{
+    let found = lists::gather(list, 64);
+    let answer = found.answer;
+    match answer {
+        lists::Reading::Refused(why, line) => without(Checked::Unread(why, line)),
+        lists::Reading::Read(n) => {
+            if room < n {
+                return without(Checked::Short);
+            }
+            let rows = found.rows;
+            check_lines(&rows, n, sheet)
+        }
+    }
+}
+
+// The first n bytes, to the lent ones.
+fn copy_bytes(to: &mut [u8], from: &[u8], n: usize)
+    requires { ⌜ (n ≤ length (now from)) × (n ≤ length (now to)) ⌝ }
+    ensures { λ _. ⌜ now (to .exit) ≡ take n (now (from .entry)) ++ drop n (now (to .entry)) ⌝ }
+{
+    let mut i: usize = 0;
+    while i < n {
+        to[i] = from[i];
+        i += 1;
+    }
+}
+
+// Checks a sheet against a clash text; accepted, each entry's group number goes to the lent colour bytes.
+pub fn check_sheet(list: &[u8], sheet: &[u8], colours: &mut [u8]) -> Checked
+    ensures { λ r. ⌜ CheckPromise (now (list .entry)) (now (sheet .entry)) (now (colours .entry)) r (now (colours .exit)) ⌝ }
+{
+    let found = check(list, sheet, colours.len());
+    let gathered = found.colours;
+    let n = found.entries;
+    copy_bytes(colours, &gathered, n);
+    found.answer
+}
+
+// Document 01's number of a fault of the list.
+fn list_number(why: lists::Fault) -> usize
+    ensures { λ r. ⌜ r ≡ listNumberOf why ⌝ }
+{
+    match why {
+        lists::Fault::Line => 10,
+        lists::Fault::Headless => 11,
+        lists::Fault::Second => 12,
+        lists::Fault::Size => 13,
+        lists::Fault::Vertex => 14,
+        lists::Fault::Loop => 15,
+        lists::Fault::Count => 16,
+        lists::Fault::Room => 17,
+        lists::Fault::Long => 18,
+    }
+}
+
+// Document 01's number of a fault of the sheet.
+fn sheet_number(why: SheetFault) -> usize
+    ensures { λ r. ⌜ r ≡ numberOf why ⌝ }
+{
+    match why {
+        SheetFault::Long => 18,
+        SheetFault::Line => 30,
+        SheetFault::Member => 31,
+        SheetFault::Order => 32,
+        SheetFault::Twice => 33,
+        SheetFault::Clash => 34,
+        SheetFault::Ends => 35,
+        SheetFault::Missing => 36,
+        SheetFault::Extra => 37,
+    }
+}
+
+// Document 01's numbers of an answer.
+pub fn numbers_of(answer: Checked) -> Numbers
+    ensures { λ r. ⌜ r ≡ numbersOf answer ⌝ }
+{
+    match answer {
+        Checked::Accepted(k) => Numbers {
+            number: 0,
+            line: 0,
+            groups: k,
+            text: 0,
+        },
+        Checked::Unread(why, line) => Numbers {
+            number: list_number(why),
+            line,
+            groups: 0,
+            text: 1,
+        },
+        Checked::Short => Numbers {
+            number: 5,
+            line: 0,
+            groups: 0,
+            text: 2,
+        },
+        Checked::Refused(why, line) => Numbers {
+            number: sheet_number(why),
+            line,
+            groups: 0,
+            text: 2,
+        },
+    }
+}
+
+// What is shown of a text for this line: the line, or the empty part at the text's start where none is named.
+fn shown<'a>(text: &'a [u8], line: usize) -> &'a [u8]
+    ensures { λ r. ⌜ ShownOf (text .entry) line r ⌝ }
+{
+    if line < 1 {
+        return lines::part(text, 0, 0);
+    }
+    lines::line_no(text, line - 1)
+}
+
+// Checks again and shows the line at fault, as a part of the list or of the sheet, whichever holds it.
+pub fn fault_line<'a>(list: &'a [u8], sheet: &'a [u8], room: usize) -> &'a [u8]
+    ensures { λ r. ⌜ PreviewPromise (list .entry) (sheet .entry) room r ⌝ }
+{
+    let found = check(list, sheet, room);
+    let answer = found.answer;
+    let m = numbers_of(answer);
+    if m.text == 1 {
+        return shown(list, m.line);
+    }
+    shown(sheet, m.line)
+}

@@ -1,0 +1,250 @@
+// Awkward pairs of a clash text and a sheet from standard input, and what checking answers to each, with the line that the preview shows.
+// Before each pair stand a line "L S", how many bytes the list and the sheet have, and a line with how many colour bytes are lent. After
+// them, the sheets of some colour bytes. What this writes is held to the file stdout, which tests/awkward_sheets.py makes from document
+// 01 alone.
+use libc::STDIN_FILENO;
+use libc::STDOUT_FILENO;
+use lines::Alone;
+use lines::Pair;
+ghost use mathlib.Core.Path.{_≡_};
+ghost use Prim.Native.Nat.{_≤_};
+ghost use lib.ListN.{length};
+ghost use Rattle.trials_sheets.specs.Case.{Within};
+
+// The next pair: how many colour bytes are lent, and where the list starts, the sheet starts, and the pair ends.
+enum Next {
+    Both(usize, usize, usize, usize),
+    Over,
+}
+
+fn put(s: &[u8]) {
+    io::write_all(STDOUT_FILENO, s);
+}
+
+fn put_number(n: usize) {
+    io::print_decimal(STDOUT_FILENO, n as u64);
+}
+
+fn wide(b: u8) -> usize {
+    b as usize
+}
+
+// Colour bytes to lend: 255 is no group's number.
+fn unset() -> [u8; 70]
+    ensures { λ r. ⌜ 70 ≡ length r ⌝ }
+{
+    [255; 70]
+}
+
+// Bytes to lend, ample for any sheet.
+fn dots() -> [u8; 768]
+    ensures { λ r. ⌜ 768 ≡ length r ⌝ }
+{
+    [46; 768]
+}
+
+fn room_for_pairs() -> [u8; 400000]
+    ensures { λ r. ⌜ 400000 ≡ length r ⌝ }
+{
+    [0; 400000]
+}
+
+// Each colour byte; a dash for one that is as it was.
+fn put_colours(colours: &[u8]) {
+    let mut i: usize = 0;
+    while i < colours.len() {
+        put(b" ");
+        if colours[i] == 255 {
+            put(b"-");
+        } else {
+            put_number(wide(colours[i]));
+        }
+        i += 1;
+    }
+}
+
+// How many colour bytes were set.
+fn count_set(colours: &[u8]) -> usize
+    ensures { λ r. ⌜ r ≤ length (now (colours .entry)) ⌝ }
+{
+    let mut i: usize = 0;
+    while i < colours.len() {
+        if colours[i] == 255 {
+            return i;
+        }
+        i += 1;
+    }
+    i
+}
+
+// Whether the lent bytes from a place on are still the dots that they were.
+fn put_kept(out: &[u8], from: usize) {
+    let mut i = from;
+    while i < out.len() {
+        if out[i] != b'.' {
+            put(b"lost\n");
+            return;
+        }
+        i += 1;
+    }
+    put(b"kept\n");
+}
+
+fn put_written(m: sheet_texts::Numbers) {
+    put(b"written ");
+    put_number(m.number);
+    put(b" index ");
+    put_number(m.index);
+    put(b" length ");
+    put_number(m.length);
+    put(b" rest ");
+}
+
+// Writes the sheet of some colour bytes to lent bytes, all dots, and answers its length, or 0.
+fn write(colours: &[u8], out: &mut [u8], show: bool) -> usize {
+    let answer = sheet_texts::write_sheet(colours, out);
+    let m = sheet_texts::numbers_of(answer);
+    put_written(m);
+    let len = m.length;
+    put_kept(out, len);
+    if show {
+        if len <= out.len() {
+            put(&out[..len]);
+        }
+    }
+    len
+}
+
+// A sheet is written thrice: with ample room, with just enough, and with one byte less.
+fn written(colours: &[u8]) {
+    let mut ample = dots();
+    let len = write(colours, &mut ample, true);
+    if 0 < len {
+        if len <= 768 {
+            let mut enough = dots();
+            write(colours, &mut enough[..len], false);
+            let less = len - 1;
+            let mut short = dots();
+            write(colours, &mut short[..less], false);
+        }
+    }
+}
+
+fn put_checked(m: sheets::Numbers) {
+    put(b"number ");
+    put_number(m.number);
+    put(b" line ");
+    put_number(m.line);
+    put(b" text ");
+    put_number(m.text);
+    put(b" groups ");
+    put_number(m.groups);
+    put(b" colours");
+}
+
+fn put_shown(part: &[u8]) {
+    put(b" shown ");
+    put_number(part.len());
+    put(b" [");
+    put(part);
+    put(b"]\n");
+}
+
+// Checks one pair with the lent colour bytes, all 255; what is accepted is written again.
+fn trial<'a>(list: &'a [u8], sheet: &'a [u8], colours: &mut [u8]) {
+    let room = colours.len();
+    let answer = sheets::check_sheet(list, sheet, colours);
+    let m = sheets::numbers_of(answer);
+    put_checked(m);
+    put_colours(colours);
+    put_shown(sheets::fault_line(list, sheet, room));
+    if m.number == 0 {
+        let n = count_set(colours);
+        written(&colours[..n]);
+    }
+}
+
+// The pair after the line with its colour bytes, which starts at `at`: so many bytes of a list, then so many of a sheet.
+fn find_texts(file: &[u8], at: usize, list: usize, sheet: usize) -> Next
+    requires { ⌜ at ≤ length (now file) ⌝ }
+    ensures { λ r. ⌜ Within at (length (now (file .entry))) r ⌝ }
+{
+    let e = lines::line_end(file, at);
+    if file.len() <= e {
+        return Next::Over;
+    }
+    match lines::one(&file[at..e]) {
+        Alone::Other => Next::Over,
+        Alone::Only(room) => {
+            if 70 < room {
+                return Next::Over;
+            }
+            if file.len() - (e + 1) < list {
+                return Next::Over;
+            }
+            let middle = e + 1 + list;
+            if file.len() - middle < sheet {
+                return Next::Over;
+            }
+            Next::Both(room, e + 1, middle, middle + sheet)
+        }
+    }
+}
+
+// The pair after the line "L S" that starts at `at`.
+fn find(file: &[u8], at: usize) -> Next
+    requires { ⌜ at ≤ length (now file) ⌝ }
+    ensures { λ r. ⌜ Within at (length (now (file .entry))) r ⌝ }
+{
+    let e = lines::line_end(file, at);
+    if file.len() <= e {
+        return Next::Over;
+    }
+    match lines::two(&file[at..e]) {
+        Pair::Neither => Next::Over,
+        Pair::Both(list, sheet) => find_texts(file, e + 1, list, sheet),
+    }
+}
+
+// Each pair of the file, with its number from 1.
+fn pairs(file: &[u8]) {
+    let mut at: usize = 0;
+    let mut k: u64 = 1;
+    while at < file.len() {
+        match find(file, at) {
+            Next::Over => {
+                put(b"over\n");
+                return;
+            }
+            Next::Both(room, start, middle, end) => {
+                io::print_decimal(STDOUT_FILENO, k);
+                put(b" ");
+                let mut lent = unset();
+                trial(&file[start..middle], &file[middle..end], &mut lent[..room]);
+                at = end;
+                k = std::num::wrapping_add_u64(k, 1);
+            }
+        }
+    }
+}
+
+fn main() {
+    let mut file = room_for_pairs();
+    let len = io::read_full(STDIN_FILENO, &mut file);
+    pairs(&file[..len]);
+    let none = [0u8; 0];
+    written(&none);
+    written(&[0]);
+    written(&[1]);
+    written(&[0, 0, 0]);
+    written(&[0, 1, 0, 1, 2]);
+    written(&[0, 2, 1]);
+    written(&[0, 1, 3, 2]);
+    written(&[0, 0, 255]);
+    let most = [0u8; 64];
+    written(&most);
+    let many = [0u8; 65];
+    written(&many);
+    let wrong = [1u8; 65];
+    written(&wrong);
+}
