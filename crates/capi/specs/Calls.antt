@@ -1,0 +1,66 @@
+-- What a call from C promises: the numbers of an answer that meets the face's promise, and the lent memory as that leaves it.
+--
+--   ValidityCall, BoundCall, WalkCall, ReadCall, ListCall, SheetCall, CheckCall : one for each kind of call
+--
+-- Assumes nothing.
+use mathlib.Core.Path.{_≡_}
+use mathlib.Core.Bool.{Bool}
+use mathlib.Core.List.{List}
+use Prim.Native.Nat.{ℕ}
+use Rattle.graphs.specs.Graph.{Graph}
+use Rattle.clashes.specs.Matrix.{Judged}
+use Rattle.clashes.specs.declared.Verdict.{Verdict}
+use Rattle.bounds.specs.Lent.{Answers}
+use Rattle.bounds.specs.declared.Bound.{Bound}
+use Rattle.zykov.specs.Walk.{State}
+use Rattle.walk.specs.Promise.{Promised}
+use Rattle.walk.specs.declared.Answer.{Answer}
+use Rattle.lists.specs.Promise.{ReadPromise, WritePromise}
+use Rattle.lists.specs.declared.Reading.{Reading}
+use Rattle.lists.specs.declared.Written as list
+use Rattle.sheet_texts.specs.Promise.{WritePromise as SheetPromise}
+use Rattle.sheet_texts.specs.declared.Written as sheet
+use Rattle.sheets.specs.Promise.{CheckPromise}
+use Rattle.sheets.specs.declared.Checked.{Checked}
+use Rattle.sittings.specs.Numbers.{verdictNumbers, boundNumbers, walkNumbers, readNumbers, listNumbers, sheetNumbers, checkNumbers}
+use Rattle.sittings.specs.declared.numbers.VerdictNumbers.{VerdictNumbers}
+use Rattle.sittings.specs.declared.numbers.BoundNumbers.{BoundNumbers}
+use Rattle.sittings.specs.declared.numbers.WalkNumbers.{WalkNumbers}
+use Rattle.sittings.specs.declared.numbers.ReadNumbers.{ReadNumbers}
+use Rattle.sittings.specs.declared.numbers.WriteNumbers.{WriteNumbers}
+use Rattle.sittings.specs.declared.numbers.CheckNumbers.{CheckNumbers}
+
+pub record ValidityCall (rows : List ℕ) (r : VerdictNumbers) : Type 0 where
+  pub answer : Verdict
+  pub promised : Judged rows answer
+  pub numbers : r ≡ verdictNumbers answer
+
+pub record BoundCall (f : ℕ → Graph → ℕ) (rows : List ℕ) (r : BoundNumbers) : Type 0 where
+  pub answer : Bound
+  pub promised : Answers f rows answer
+  pub numbers : r ≡ boundNumbers answer
+
+pub record WalkCall (walk : ℕ → (ℕ → ℕ → Bool) → State) (rows before : List ℕ) (budget : ℕ) (r : WalkNumbers) (after : List ℕ) : Type 0 where
+  pub answer : Answer
+  pub promised : Promised walk rows before budget answer after
+  pub numbers : r ≡ walkNumbers answer
+
+pub record ReadCall (text old : List ℕ) (r : ReadNumbers) (new : List ℕ) : Type 0 where
+  pub answer : Reading
+  pub promised : ReadPromise text old answer new
+  pub numbers : r ≡ readNumbers answer
+
+pub record ListCall (rows old : List ℕ) (r : WriteNumbers) (new : List ℕ) : Type 0 where
+  pub answer : list.Written
+  pub promised : WritePromise rows old answer new
+  pub numbers : r ≡ listNumbers answer
+
+pub record SheetCall (colours old : List ℕ) (r : WriteNumbers) (new : List ℕ) : Type 0 where
+  pub answer : sheet.Written
+  pub promised : SheetPromise colours old answer new
+  pub numbers : r ≡ sheetNumbers answer
+
+pub record CheckCall (list sheet old : List ℕ) (r : CheckNumbers) (new : List ℕ) : Type 0 where
+  pub answer : Checked
+  pub promised : CheckPromise list sheet old answer new
+  pub numbers : r ≡ checkNumbers answer

@@ -1,0 +1,87 @@
+// The library's face for C and the languages that call C: the same calls, answered in document 01's numbers. A lent slice is passed as a pointer
+// and a length. include/slotsheet.h declares these.
+use sittings::numbers::BoundNumbers;
+use sittings::numbers::CheckNumbers;
+use sittings::numbers::ReadNumbers;
+use sittings::numbers::VerdictNumbers;
+use sittings::numbers::WalkNumbers;
+use sittings::numbers::WriteNumbers;
+ghost use Rattle.bounds.specs.Names.{cliqueBound, mycielskian};
+ghost use Rattle.zykov.specs.Walk.{boundedWalk, plainWalk};
+ghost use Rattle.capi.specs.Calls.{ValidityCall, BoundCall, WalkCall, ReadCall, ListCall, SheetCall, CheckCall};
+
+#[no_mangle]
+pub extern "C" fn slotsheet_validity(rows: &[u64]) -> VerdictNumbers
+    ensures { λ r. ⌜ ValidityCall (now (rows .entry)) r ⌝ }
+{
+    let a = sittings::validity(rows);
+    sittings::numbers::of_verdict(a)
+}
+
+#[no_mangle]
+pub extern "C" fn slotsheet_clique_bound(rows: &[u64]) -> BoundNumbers
+    ensures { λ r. ⌜ BoundCall cliqueBound (now (rows .entry)) r ⌝ }
+{
+    let a = sittings::clique_bound(rows);
+    sittings::numbers::of_bound(a)
+}
+
+#[no_mangle]
+pub extern "C" fn slotsheet_mycielskian_bound(rows: &[u64]) -> BoundNumbers
+    ensures { λ r. ⌜ BoundCall mycielskian (now (rows .entry)) r ⌝ }
+{
+    let a = sittings::mycielskian_bound(rows);
+    sittings::numbers::of_bound(a)
+}
+
+#[no_mangle]
+pub extern "C" fn slotsheet_fewest(rows: &[u64], colours: &mut [u8], budget: u64) -> WalkNumbers
+    ensures { λ r. ⌜ WalkCall (boundedWalk mycielskian) (now (rows .entry)) (now (colours .entry)) budget r (now (colours .exit)) ⌝ }
+{
+    let a = sittings::fewest(rows, colours, budget);
+    sittings::numbers::of_walk(a)
+}
+
+#[no_mangle]
+pub extern "C" fn slotsheet_plain(rows: &[u64], colours: &mut [u8], budget: u64) -> WalkNumbers
+    ensures { λ r. ⌜ WalkCall plainWalk (now (rows .entry)) (now (colours .entry)) budget r (now (colours .exit)) ⌝ }
+{
+    let a = sittings::plain(rows, colours, budget);
+    sittings::numbers::of_walk(a)
+}
+
+#[no_mangle]
+pub extern "C" fn slotsheet_read_list(text: &[u8], rows: &mut [u64]) -> ReadNumbers
+    ensures { λ r. ⌜ ReadCall (now (text .entry)) (now (rows .entry)) r (now (rows .exit)) ⌝ }
+{
+    let a = sittings::read_list(text, rows);
+    sittings::numbers::of_reading(a)
+}
+
+#[no_mangle]
+pub extern "C" fn slotsheet_write_list(rows: &[u64], out: &mut [u8]) -> WriteNumbers
+    ensures { λ r. ⌜ ListCall (now (rows .entry)) (now (out .entry)) r (now (out .exit)) ⌝ }
+{
+    let a = sittings::write_list(rows, out);
+    sittings::numbers::of_list(a)
+}
+
+#[no_mangle]
+pub extern "C" fn slotsheet_write_sheet(colours: &[u8], out: &mut [u8]) -> WriteNumbers
+    ensures { λ r. ⌜ SheetCall (now (colours .entry)) (now (out .entry)) r (now (out .exit)) ⌝ }
+{
+    let a = sittings::write_sheet(colours, out);
+    sittings::numbers::of_sheet(a)
+}
+
+#[no_mangle]
+pub extern "C" fn slotsheet_check_sheet(
+    list: &[u8],
+    sheet: &[u8],
+    colours: &mut [u8],
+) -> CheckNumbers
+    ensures { λ r. ⌜ CheckCall (now (list .entry)) (now (sheet .entry)) (now (colours .entry)) r (now (colours .exit)) ⌝ }
+{
+    let a = sittings::check_sheet(list, sheet, colours);
+    sittings::numbers::of_check(a)
+}

@@ -1,0 +1,2 @@
+-- Each promise leaves one answer.
+pub mod Unique

@@ -1,0 +1,65 @@
+-- Every promise of the face leaves one answer and one state of the lent memory, for every input, refused ones too. Assumes nothing.
+use mathlib.Core.Path.{_≡_}
+use mathlib.Core.List.{List}
+use Prim.Native.Nat.{ℕ}
+use denote.Ref.{RefT, now}
+use Rattle.clashes.specs.Matrix.{Judged}
+use Rattle.clashes.specs.declared.Verdict.{Verdict}
+use Rattle.clashes.proofs.MatrixLaws.{judged-unique}
+use Rattle.bounds.specs.Names.{cliqueBound, mycielskian}
+use Rattle.bounds.specs.Lent.{Answers}
+use Rattle.bounds.specs.declared.Bound.{Bound}
+use Rattle.bounds.proofs.LentLaws.{answers-unique}
+use Rattle.zykov.specs.Walk.{boundedWalk, plainWalk}
+use Rattle.walk.specs.Promise.{Promised}
+use Rattle.walk.specs.declared.Answer.{Answer}
+use Rattle.walk.proofs.PromiseLaws.{promised-unique}
+use Rattle.lists.specs.Promise.{ReadPromise, WritePromise}
+use Rattle.lists.specs.declared.Reading.{Reading}
+use Rattle.lists.specs.declared.Written as list
+use Rattle.lists.proofs.Unique as lists
+use Rattle.sheet_texts.specs.Promise.{WritePromise as SheetPromise}
+use Rattle.sheet_texts.specs.declared.Written as sheet
+use Rattle.sheet_texts.proofs.Unique as texts
+use Rattle.sheets.specs.Promise.{CheckPromise, PreviewPromise}
+use Rattle.sheets.specs.declared.Checked.{Checked}
+use Rattle.sheets.proofs.Unique as sheets
+
+pub validity-unique : (rows : List ℕ) (a b : Verdict) → Judged rows a → Judged rows b → a ≡ b
+validity-unique = judged-unique
+
+pub clique-unique : (rows : List ℕ) (a b : Bound) → Answers cliqueBound rows a → Answers cliqueBound rows b → a ≡ b
+clique-unique = answers-unique cliqueBound
+
+pub mycielskian-unique : (rows : List ℕ) (a b : Bound) → Answers mycielskian rows a → Answers mycielskian rows b → a ≡ b
+mycielskian-unique = answers-unique mycielskian
+
+pub fewest-unique : (rows before : List ℕ) (budget : ℕ) (a b : Answer) (after other : List ℕ)
+    → Promised (boundedWalk mycielskian) rows before budget a after → Promised (boundedWalk mycielskian) rows before budget b other
+    → (a ≡ b) × (after ≡ other)
+fewest-unique = promised-unique (boundedWalk mycielskian)
+
+pub plain-unique : (rows before : List ℕ) (budget : ℕ) (a b : Answer) (after other : List ℕ) → Promised plainWalk rows before budget a after
+    → Promised plainWalk rows before budget b other → (a ≡ b) × (after ≡ other)
+plain-unique = promised-unique plainWalk
+
+pub read-list-unique : (text old : List ℕ) (a b : Reading) (new other : List ℕ) → ReadPromise text old a new → ReadPromise text old b other
+    → (a ≡ b) × (new ≡ other)
+read-list-unique = lists.read-unique
+
+pub write-list-unique : (rows old : List ℕ) (a b : list.Written) (new other : List ℕ) → WritePromise rows old a new
+    → WritePromise rows old b other → (a ≡ b) × (new ≡ other)
+write-list-unique = lists.write-unique
+
+pub write-sheet-unique : (colours old : List ℕ) (a b : sheet.Written) (new other : List ℕ) → SheetPromise colours old a new
+    → SheetPromise colours old b other → (a ≡ b) × (new ≡ other)
+write-sheet-unique = texts.write-unique
+
+pub check-sheet-unique : (list sheet old : List ℕ) (a b : Checked) (new other : List ℕ) → CheckPromise list sheet old a new
+    → CheckPromise list sheet old b other → (a ≡ b) × (new ≡ other)
+check-sheet-unique = sheets.check-unique
+
+-- the part's bytes, and where it lies
+pub fault-line-unique : (list sheet : RefT (List ℕ)) (room : ℕ) (r q : RefT (List ℕ)) → PreviewPromise list sheet room r
+    → PreviewPromise list sheet room q → (now r ≡ now q) × (r .ptr .0 ≡ q .ptr .0) × (r .ptr .1 ≡ q .ptr .1)
+fault-line-unique = sheets.preview-unique

@@ -1,0 +1,2 @@
+-- Document 01's numbers of each answer.
+pub mod Numbers

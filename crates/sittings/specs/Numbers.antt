@@ -1,0 +1,63 @@
+-- Document 01's numbers of each answer, as the C interface hands them out: the refusal (0: accepted) and what is returned beside it; every number
+-- that an answer does not name is 0. Each is read off the one definition of its own crate.
+--
+--   verdictNumbers : of `validity`
+--   boundNumbers   : of the two bounds
+--   walkNumbers    : of the two walks
+--   readNumbers    : of reading a list
+--   listNumbers    : of writing a list
+--   sheetNumbers   : of writing a sheet
+--   checkNumbers   : of checking a sheet
+--
+-- Assumes nothing.
+use Rattle.clashes.specs.Matrix.{numberOf, rowOf}
+use Rattle.clashes.specs.declared.Verdict.{Verdict}
+use Rattle.bounds.specs.Lent.{verdictOf, valueOf}
+use Rattle.bounds.specs.declared.Bound.{Bound}
+use Rattle.walk.specs.Promise as walk
+use Rattle.walk.specs.declared.Answer.{Answer}
+use Rattle.lists.specs.Promise as lists
+use Rattle.lists.specs.declared.Reading.{Reading}
+use Rattle.lists.specs.declared.Written as list
+use Rattle.sheet_texts.specs.Promise as texts
+use Rattle.sheet_texts.specs.declared.Written as sheet
+use Rattle.sheets.specs.Promise as sheets
+use Rattle.sheets.specs.declared.Checked.{Checked}
+use Rattle.sittings.specs.declared.numbers.VerdictNumbers.{VerdictNumbers}
+use Rattle.sittings.specs.declared.numbers.BoundNumbers.{BoundNumbers}
+use Rattle.sittings.specs.declared.numbers.WalkNumbers.{WalkNumbers}
+use Rattle.sittings.specs.declared.numbers.ReadNumbers.{ReadNumbers}
+use Rattle.sittings.specs.declared.numbers.WriteNumbers.{WriteNumbers}
+use Rattle.sittings.specs.declared.numbers.CheckNumbers.{CheckNumbers}
+
+abbrev pub verdictNumbers : Verdict → VerdictNumbers
+verdictNumbers v = record { refusal = numberOf v; row = rowOf v }
+
+abbrev pub boundNumbers : Bound → BoundNumbers
+boundNumbers b = record { refusal = numberOf (verdictOf b); row = rowOf (verdictOf b); bound = valueOf b }
+
+abbrev pub walkNumbers : Answer → WalkNumbers
+walkNumbers a = record {
+  refusal = walk.numbers a .number;
+  row = walk.numbers a .row;
+  k = walk.numbers a .k;
+  nodes = walk.numbers a .nodes;
+  leaves = walk.numbers a .leaves;
+}
+
+abbrev pub readNumbers : Reading → ReadNumbers
+readNumbers a = record { refusal = lists.readNumbers a .number; line = lists.readNumbers a .place; entries = lists.readNumbers a .size }
+
+abbrev pub listNumbers : list.Written → WriteNumbers
+listNumbers a = record { refusal = lists.writeNumbers a .number; place = lists.writeNumbers a .place; length = lists.writeNumbers a .size }
+
+abbrev pub sheetNumbers : sheet.Written → WriteNumbers
+sheetNumbers a = record { refusal = texts.numbersOf a .number; place = texts.numbersOf a .index; length = texts.numbersOf a .length }
+
+abbrev pub checkNumbers : Checked → CheckNumbers
+checkNumbers a = record {
+  refusal = sheets.numbersOf a .number;
+  line = sheets.numbersOf a .line;
+  groups = sheets.numbersOf a .groups;
+  text = sheets.numbersOf a .text;
+}

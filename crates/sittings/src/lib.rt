@@ -1,0 +1,87 @@
+// The library's face: every function that a wizard calls. None asks its caller to check anything beforehand, each answers every input by one
+// promise, and none writes to lent memory where it refuses.
+use bounds::Bound;
+use clashes::Verdict;
+use lists::Reading;
+use sheets::Checked;
+use walk::Answer;
+ghost use Rattle.clashes.specs.Matrix.{Judged};
+ghost use Rattle.bounds.specs.Names.{cliqueBound, mycielskian};
+ghost use Rattle.bounds.specs.Lent.{Answers};
+ghost use Rattle.zykov.specs.Walk.{boundedWalk, plainWalk};
+ghost use Rattle.walk.specs.Promise.{Promised};
+ghost use Rattle.lists.specs.Promise.{ReadPromise, WritePromise};
+ghost use Rattle.sheet_texts.specs.Promise.{WritePromise as SheetPromise};
+ghost use Rattle.sheets.specs.Promise.{CheckPromise, PreviewPromise};
+
+pub mod numbers;
+
+// Is this the matrix of a clash list? If not, by which number, and at which row?
+pub fn validity(rows: &[u64]) -> Verdict
+    ensures { λ r. ⌜ Judged (now (rows .entry)) r ⌝ }
+{
+    clashes::validity(rows)
+}
+
+// The clique bound of a list.
+pub fn clique_bound(rows: &[u64]) -> Bound
+    ensures { λ r. ⌜ Answers cliqueBound (now (rows .entry)) r ⌝ }
+{
+    bounds::clique_bound(rows)
+}
+
+// The Mycielskian bound of a list.
+pub fn mycielskian_bound(rows: &[u64]) -> Bound
+    ensures { λ r. ⌜ Answers mycielskian (now (rows .entry)) r ⌝ }
+{
+    bounds::mycielskian_bound(rows)
+}
+
+// The fewest sittings of a list, by the bounded walk: k and nodes, and each entry's sitting in the lent bytes.
+pub fn fewest(rows: &[u64], colours: &mut [u8], budget: u64) -> Answer
+    ensures { λ r. ⌜ Promised (boundedWalk mycielskian) (now (rows .entry)) (now (colours .entry)) budget r (now (colours .exit)) ⌝ }
+{
+    walk::fewest(rows, colours, budget)
+}
+
+// The same by the plain walk, which has no bounds: k, nodes and complete graphs.
+pub fn plain(rows: &[u64], colours: &mut [u8], budget: u64) -> Answer
+    ensures { λ r. ⌜ Promised plainWalk (now (rows .entry)) (now (colours .entry)) budget r (now (colours .exit)) ⌝ }
+{
+    walk::plain(rows, colours, budget)
+}
+
+// Reads a clash text into the lent rows.
+pub fn read_list(text: &[u8], rows: &mut [u64]) -> Reading
+    ensures { λ r. ⌜ ReadPromise (now (text .entry)) (now (rows .entry)) r (now (rows .exit)) ⌝ }
+{
+    lists::read_list(text, rows)
+}
+
+// Writes the text of a list to the lent bytes.
+pub fn write_list(rows: &[u64], out: &mut [u8]) -> lists::Written
+    ensures { λ r. ⌜ WritePromise (now (rows .entry)) (now (out .entry)) r (now (out .exit)) ⌝ }
+{
+    lists::write_list(rows, out)
+}
+
+// Writes the sheet of these colour bytes to the lent bytes.
+pub fn write_sheet(colours: &[u8], out: &mut [u8]) -> sheet_texts::Written
+    ensures { λ r. ⌜ SheetPromise (now (colours .entry)) (now (out .entry)) r (now (out .exit)) ⌝ }
+{
+    sheet_texts::write_sheet(colours, out)
+}
+
+// Checks a sheet against a clash text; accepted, each entry's group number goes to the lent bytes.
+pub fn check_sheet(list: &[u8], sheet: &[u8], colours: &mut [u8]) -> Checked
+    ensures { λ r. ⌜ CheckPromise (now (list .entry)) (now (sheet .entry)) (now (colours .entry)) r (now (colours .exit)) ⌝ }
+{
+    sheets::check_sheet(list, sheet, colours)
+}
+
+// Checks again, for so many colour bytes, and shows the line at fault, as a part of the list or of the sheet, whichever holds it.
+pub fn fault_line<'a>(list: &'a [u8], sheet: &'a [u8], room: usize) -> &'a [u8]
+    ensures { λ r. ⌜ PreviewPromise (list .entry) (sheet .entry) room r ⌝ }
+{
+    sheets::fault_line(list, sheet, room)
+}

@@ -1,0 +1,256 @@
+// Document 01's numbers of each answer, for callers that go by numbers: other languages, and the program.
+use bounds::Bound;
+use clashes::Verdict;
+use lists::Fault;
+use lists::Reading;
+use sheets::Checked;
+use walk::Answer;
+ghost use mathlib.Core.Path.{_≡_};
+ghost use Rattle.lists.specs.Promise.{numberOf as faultNumber};
+ghost use Rattle.sittings.specs.Numbers.{verdictNumbers, boundNumbers, walkNumbers, readNumbers, listNumbers, sheetNumbers, checkNumbers};
+
+#[repr(C)]
+pub struct VerdictNumbers {
+    pub refusal: usize,
+    pub row: usize,
+}
+
+#[repr(C)]
+pub struct BoundNumbers {
+    pub refusal: usize,
+    pub row: usize,
+    pub bound: usize,
+}
+
+#[repr(C)]
+pub struct WalkNumbers {
+    pub refusal: usize,
+    pub row: usize,
+    pub k: usize,
+    pub nodes: u64,
+    pub leaves: u64,
+}
+
+#[repr(C)]
+pub struct ReadNumbers {
+    pub refusal: usize,
+    pub line: usize,
+    pub entries: usize,
+}
+
+// Of writing a list or a sheet: `place` is the row, or the index of a colour byte.
+#[repr(C)]
+pub struct WriteNumbers {
+    pub refusal: usize,
+    pub place: usize,
+    pub length: usize,
+}
+
+// `text` says which text is at fault: 0 for none, 1 for the list, 2 for the sheet.
+#[repr(C)]
+pub struct CheckNumbers {
+    pub refusal: usize,
+    pub line: usize,
+    pub groups: usize,
+    pub text: usize,
+}
+
+pub fn of_verdict(v: Verdict) -> VerdictNumbers
+    ensures { λ r. ⌜ r ≡ verdictNumbers v ⌝ }
+{
+    match v {
+        Verdict::Valid => VerdictNumbers { refusal: 0, row: 0 },
+        Verdict::Many => VerdictNumbers { refusal: 1, row: 0 },
+        Verdict::Stray(row) => VerdictNumbers { refusal: 2, row },
+        Verdict::Itself(row) => VerdictNumbers { refusal: 3, row },
+        Verdict::OneSided(row) => VerdictNumbers { refusal: 4, row },
+    }
+}
+
+pub fn of_bound(b: Bound) -> BoundNumbers
+    ensures { λ r. ⌜ r ≡ boundNumbers b ⌝ }
+{
+    match b {
+        Bound::At(bound) => BoundNumbers {
+            refusal: 0,
+            row: 0,
+            bound,
+        },
+        Bound::Many => BoundNumbers {
+            refusal: 1,
+            row: 0,
+            bound: 0,
+        },
+        Bound::Stray(row) => BoundNumbers {
+            refusal: 2,
+            row,
+            bound: 0,
+        },
+        Bound::Itself(row) => BoundNumbers {
+            refusal: 3,
+            row,
+            bound: 0,
+        },
+        Bound::OneSided(row) => BoundNumbers {
+            refusal: 4,
+            row,
+            bound: 0,
+        },
+    }
+}
+
+pub fn of_walk(a: Answer) -> WalkNumbers
+    ensures { λ r. ⌜ r ≡ walkNumbers a ⌝ }
+{
+    match a {
+        Answer::Accepted(k, nodes, leaves) => WalkNumbers {
+            refusal: 0,
+            row: 0,
+            k,
+            nodes,
+            leaves,
+        },
+        Answer::Many => WalkNumbers {
+            refusal: 1,
+            row: 0,
+            k: 0,
+            nodes: 0,
+            leaves: 0,
+        },
+        Answer::Stray(row) => WalkNumbers {
+            refusal: 2,
+            row,
+            k: 0,
+            nodes: 0,
+            leaves: 0,
+        },
+        Answer::Itself(row) => WalkNumbers {
+            refusal: 3,
+            row,
+            k: 0,
+            nodes: 0,
+            leaves: 0,
+        },
+        Answer::OneSided(row) => WalkNumbers {
+            refusal: 4,
+            row,
+            k: 0,
+            nodes: 0,
+            leaves: 0,
+        },
+        Answer::Short => WalkNumbers {
+            refusal: 5,
+            row: 0,
+            k: 0,
+            nodes: 0,
+            leaves: 0,
+        },
+        Answer::Budget(nodes) => WalkNumbers {
+            refusal: 6,
+            row: 0,
+            k: 0,
+            nodes,
+            leaves: 0,
+        },
+        Answer::Deep => WalkNumbers {
+            refusal: 7,
+            row: 0,
+            k: 0,
+            nodes: 0,
+            leaves: 0,
+        },
+    }
+}
+
+fn of_fault(why: Fault) -> usize
+    ensures { λ r. ⌜ r ≡ faultNumber why ⌝ }
+{
+    match why {
+        Fault::Line => 10,
+        Fault::Headless => 11,
+        Fault::Second => 12,
+        Fault::Size => 13,
+        Fault::Vertex => 14,
+        Fault::Loop => 15,
+        Fault::Count => 16,
+        Fault::Room => 17,
+        Fault::Long => 18,
+    }
+}
+
+pub fn of_reading(a: Reading) -> ReadNumbers
+    ensures { λ r. ⌜ r ≡ readNumbers a ⌝ }
+{
+    match a {
+        Reading::Read(entries) => ReadNumbers {
+            refusal: 0,
+            line: 0,
+            entries,
+        },
+        Reading::Refused(why, line) => ReadNumbers {
+            refusal: of_fault(why),
+            line,
+            entries: 0,
+        },
+    }
+}
+
+pub fn of_list(a: lists::Written) -> WriteNumbers
+    ensures { λ r. ⌜ r ≡ listNumbers a ⌝ }
+{
+    match a {
+        lists::Written::Length(length) => WriteNumbers {
+            refusal: 0,
+            place: 0,
+            length,
+        },
+        lists::Written::Many => WriteNumbers {
+            refusal: 1,
+            place: 0,
+            length: 0,
+        },
+        lists::Written::Stray(place) => WriteNumbers {
+            refusal: 2,
+            place,
+            length: 0,
+        },
+        lists::Written::Itself(place) => WriteNumbers {
+            refusal: 3,
+            place,
+            length: 0,
+        },
+        lists::Written::OneSided(place) => WriteNumbers {
+            refusal: 4,
+            place,
+            length: 0,
+        },
+        lists::Written::Full => WriteNumbers {
+            refusal: 19,
+            place: 0,
+            length: 0,
+        },
+    }
+}
+
+pub fn of_sheet(a: sheet_texts::Written) -> WriteNumbers
+    ensures { λ r. ⌜ r ≡ sheetNumbers a ⌝ }
+{
+    let n = sheet_texts::numbers_of(a);
+    WriteNumbers {
+        refusal: n.number,
+        place: n.index,
+        length: n.length,
+    }
+}
+
+pub fn of_check(a: Checked) -> CheckNumbers
+    ensures { λ r. ⌜ r ≡ checkNumbers a ⌝ }
+{
+    let n = sheets::numbers_of(a);
+    CheckNumbers {
+        refusal: n.number,
+        line: n.line,
+        groups: n.groups,
+        text: n.text,
+    }
+}
