@@ -1,0 +1,54 @@
+//! Hand-written walks with document 01's counts, for comparison with the proved ones.
+//!
+//! - `described`: the bounded and the plain walk, straight from document 01's words;
+//! - `tuned`: the bounded walk made as fast as we could, with the same answers;
+//! - `reading`: a clash text in one pass;
+//! - `lists`: lists to walk, random ones and those of a folder.
+
+pub mod described;
+pub mod lists;
+pub mod reading;
+pub mod sets;
+pub mod tuned;
+
+use second::{Refusal, Refused};
+use sets::{below, bit, Members};
+
+/// What an accepted walk returns.
+#[derive(Clone, Copy, Debug, PartialEq, Eq)]
+pub struct Walked {
+    pub k: u64,
+    pub nodes: u64,
+    /// The plain walk's number of complete graphs; 0 for the bounded walk.
+    pub complete: u64,
+}
+
+/// A walk: lent rows, lent colours, budget.
+pub type Walk = fn(&[u64], &mut [u8], u64) -> Result<Walked, Refused>;
+
+/// Document 01's refusals of a matrix: 1 to 4, each over all rows before the next.
+fn judge(rows: &[u64]) -> Result<(), Refused> {
+    let n = rows.len();
+    if n > 64 {
+        return Err(Refusal::Many.bare());
+    }
+    if let Some(i) = (0..n).find(|&i| rows[i] & !below(n) != 0) {
+        return Err(Refusal::Stray.at(i));
+    }
+    if let Some(i) = (0..n).find(|&i| rows[i] & bit(i) != 0) {
+        return Err(Refusal::Itself.at(i));
+    }
+    if let Some(i) = (0..n).find(|&i| Members(rows[i]).any(|j| rows[j] & bit(i) == 0)) {
+        return Err(Refusal::OneSided.at(i));
+    }
+    Ok(())
+}
+
+/// Document 01's refusals before a walk: 1 to 4, then 5. (7 cannot arise with 64 entries.)
+fn admit(rows: &[u64], colours: &[u8]) -> Result<(), Refused> {
+    judge(rows)?;
+    if colours.len() < rows.len() {
+        return Err(Refusal::Short.bare());
+    }
+    Ok(())
+}

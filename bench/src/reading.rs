@@ -1,0 +1,118 @@
+//! A clash text read in one pass, as one would write it for speed: no list of lines, numbers taken as their digits come.
+
+use second::{Refusal, Refused};
+
+/// A text and how far it is read.
+struct Cursor<'a> {
+    text: &'a [u8],
+    at: usize,
+}
+
+impl Cursor<'_> {
+    fn takes(&mut self, word: &[u8]) -> bool {
+        let stands = self.text[self.at..].starts_with(word);
+        if stands {
+            self.at += word.len();
+        }
+        stands
+    }
+
+    /// A number and the byte that must follow it.
+    fn number(&mut self, after: u8) -> Option<usize> {
+        let start = self.at;
+        let mut value = 0;
+        while let Some(digit) = self.text.get(self.at).map(|b| b.wrapping_sub(b'0')).filter(|&digit| digit < 10) {
+            value = value * 10 + usize::from(digit);
+            self.at += 1;
+            if self.at - start > 7 {
+                return None;
+            }
+        }
+        let digits = self.at - start;
+        let shaped = digits > 0 && (digits == 1 || self.text[start] != b'0') && self.text.get(self.at) == Some(&after);
+        self.at += 1;
+        shaped.then_some(value)
+    }
+
+    /// Two numbers up to the line's end.
+    fn numbers(&mut self) -> Option<(usize, usize)> {
+        Some((self.number(b' ')?, self.number(b'\n')?))
+    }
+
+    /// Past this line's line feed; none where it has none.
+    fn skip(&mut self) -> Option<()> {
+        self.at += self.text[self.at..].iter().position(|&b| b == b'\n')? + 1;
+        Some(())
+    }
+}
+
+/// What is read so far: the p line's numbers once it stood, and the edges.
+struct Reading {
+    stated: Option<(usize, usize)>,
+    edges: usize,
+    rows: [u64; 64],
+}
+
+impl Reading {
+    fn problem(&mut self, n: usize, m: usize, room: usize) -> Result<(), Refusal> {
+        if self.stated.is_some() {
+            return Err(Refusal::Second);
+        }
+        if n > 64 {
+            return Err(Refusal::Size);
+        }
+        if n > room {
+            return Err(Refusal::Room);
+        }
+        self.stated = Some((n, m));
+        Ok(())
+    }
+
+    fn edge(&mut self, u: usize, v: usize) -> Result<(), Refusal> {
+        let (n, _) = self.stated.ok_or(Refusal::Headless)?;
+        if u < 1 || u > n || v < 1 || v > n {
+            return Err(Refusal::Vertex);
+        }
+        if u == v {
+            return Err(Refusal::Loop);
+        }
+        self.rows[u - 1] |= 1 << (v - 1);
+        self.rows[v - 1] |= 1 << (u - 1);
+        self.edges += 1;
+        Ok(())
+    }
+
+    fn line(&mut self, cursor: &mut Cursor, room: usize) -> Result<(), Refusal> {
+        if cursor.takes(b"e ") {
+            let (u, v) = cursor.numbers().ok_or(Refusal::Line)?;
+            self.edge(u, v)
+        } else if cursor.takes(b"c ") {
+            cursor.skip().ok_or(Refusal::Line)
+        } else if cursor.takes(b"p edge ") {
+            let (n, m) = cursor.numbers().ok_or(Refusal::Line)?;
+            self.problem(n, m, room)
+        } else {
+            Err(Refusal::Line)
+        }
+    }
+}
+
+/// Reads a clash text: writes the first n lent rows and returns n, or writes nothing.
+pub fn read(text: &[u8], rows: &mut [u64]) -> Result<usize, Refused> {
+    if text.len() > second::BYTES {
+        return Err(Refusal::Long.bare());
+    }
+    let mut cursor = Cursor { text, at: 0 };
+    let mut reading = Reading { stated: None, edges: 0, rows: [0; 64] };
+    let mut line = 1;
+    while cursor.at < text.len() {
+        reading.line(&mut cursor, rows.len()).map_err(|why| why.at(line))?;
+        line += 1;
+    }
+    let (n, m) = reading.stated.ok_or(Refusal::Headless.at(line))?;
+    if reading.edges != m {
+        return Err(Refusal::Count.at(line));
+    }
+    rows[..n].copy_from_slice(&reading.rows[..n]);
+    Ok(n)
+}

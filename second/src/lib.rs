@@ -1,0 +1,22 @@
+//! A second opinion, written from document 01 and docs/DECISIONS.md alone. It shares no code and no method with the proved crates, so where
+//! the two agree on thousands of inputs, a misreading of the paper would have to have happened twice.
+//!
+//! - `colouring`: the fewest groups, by saturation branch and bound (no merging, no Mycielskian bound, no node count);
+//! - `matrix`: what makes lent rows a list (1 to 4), and P by listing divisions;
+//! - `list`: reading and writing a clash text;
+//! - `sheet`: writing a sheet, checking one against a list, and the preview's part.
+
+pub mod colouring;
+pub mod lines;
+pub mod list;
+pub mod matrix;
+pub mod refusal;
+pub mod sheet;
+
+pub use refusal::{Refusal, Refused};
+
+/// The most entries of a list.
+pub const ENTRIES: usize = 64;
+
+/// The most bytes of a text.
+pub const BYTES: usize = 65_536;

@@ -1,0 +1,292 @@
+//! Clash texts: DIMACS colouring format, as document 01 narrows it.
+
+use crate::lines::{lines, number, words, Line};
+use crate::{matrix, Refusal, Refused, BYTES, ENTRIES};
+
+/// What a line of permitted shape says.
+enum Shape {
+    Comment,
+    Problem { entries: usize, edges: usize },
+    Edge { ends: [usize; 2] },
+}
+
+/// The permitted shapes: "c " and anything, "p edge N M", "e U V", each ended.
+fn shape(line: &Line) -> Option<Shape> {
+    if !line.ended {
+        return None;
+    }
+    if line.bytes.starts_with(b"c ") {
+        return Some(Shape::Comment);
+    }
+    match words(line.bytes)[..] {
+        [b"p", b"edge", n, m] => Some(Shape::Problem { entries: number(n)?, edges: number(m)? }),
+        [b"e", u, v] => Some(Shape::Edge { ends: [number(u)?, number(v)?] }),
+        _ => None,
+    }
+}
+
+/// What has been read so far.
+struct State {
+    /// Entries and stated number of e lines, once the p line stood.
+    stated: Option<(usize, usize)>,
+    edges: usize,
+    rows: [u64; ENTRIES],
+}
+
+impl State {
+    /// One line, by 10, 11, 12, 13, 17, 14, 15.
+    fn take(&mut self, line: &Line, room: usize) -> Result<(), Refusal> {
+        match (shape(line).ok_or(Refusal::Line)?, self.stated) {
+            (Shape::Comment, _) => {}
+            (Shape::Edge { .. }, None) => return Err(Refusal::Headless),
+            (Shape::Problem { .. }, Some(_)) => return Err(Refusal::Second),
+            (Shape::Problem { entries, .. }, None) if entries > ENTRIES => return Err(Refusal::Size),
+            (Shape::Problem { entries, .. }, None) if entries > room => return Err(Refusal::Room),
+            (Shape::Problem { entries, edges }, None) => self.stated = Some((entries, edges)),
+            (Shape::Edge { ends }, Some((n, _))) if ends.iter().any(|&end| end < 1 || end > n) => return Err(Refusal::Vertex),
+            (Shape::Edge { ends: [u, v] }, Some(_)) if u == v => return Err(Refusal::Loop),
+            (Shape::Edge { ends: [u, v] }, Some(_)) => {
+                self.edges += 1;
+                self.rows[u - 1] |= 1 << (v - 1);
+                self.rows[v - 1] |= 1 << (u - 1);
+            }
+        }
+        Ok(())
+    }
+}
+
+/// Reads a clash text: writes the first n lent rows and returns n, or writes nothing.
+pub fn read(text: &[u8], rows: &mut [u64]) -> Result<usize, Refused> {
+    if text.len() > BYTES {
+        return Err(Refusal::Long.bare());
+    }
+    let all = lines(text);
+    let mut state = State { stated: None, edges: 0, rows: [0; ENTRIES] };
+    for line in &all {
+        state.take(line, rows.len()).map_err(|why| why.at(line.number))?;
+    }
+    let past = all.len() + 1;
+    let (n, stated) = state.stated.ok_or(Refusal::Headless.at(past))?;
+    if state.edges != stated {
+        return Err(Refusal::Count.at(past));
+    }
+    rows[..n].copy_from_slice(&state.rows[..n]);
+    Ok(n)
+}
+
+/// The clash text of a valid list.
+pub fn text_of(rows: &[u64]) -> String {
+    let n = rows.len();
+    let edges: Vec<(usize, usize)> =
+        (0..n).flat_map(|u| (u + 1..n).map(move |v| (u, v))).filter(|&(u, v)| matrix::has(rows, u, v)).collect();
+    let head = format!("p edge {n} {}\n", edges.len());
+    edges.iter().fold(head, |text, (u, v)| text + &format!("e {} {}\n", u + 1, v + 1))
+}
+
+/// Writes a list's clash text and returns its length, or writes nothing: 1 to 4, then 19.
+pub fn write(rows: &[u64], out: &mut [u8]) -> Result<usize, Refused> {
+    matrix::judge(rows)?;
+    put(&text_of(rows), out)
+}
+
+/// A whole text into the output buffer, or 19; bytes after it stay.
+pub(crate) fn put(text: &str, out: &mut [u8]) -> Result<usize, Refused> {
+    let room = out.get_mut(..text.len()).ok_or(Refusal::Full.bare())?;
+    room.copy_from_slice(text.as_bytes());
+    Ok(text.len())
+}
+
+#[cfg(test)]
+mod tests {
+    use super::*;
+    use crate::matrix::rows_of;
+
+    const FIVE_CYCLE: &str = "p edge 5 5\ne 1 2\ne 2 3\ne 3 4\ne 4 5\ne 1 5\n";
+
+    /// Reads with 64 lent rows of a pattern that must stay where reading writes nothing.
+    fn read_64(text: &[u8]) -> Result<Vec<u64>, (u64, u64)> {
+        let mut rows = [0xA5A5_u64; 64];
+        match read(text, &mut rows) {
+            Ok(n) => {
+                assert!(rows[n..].iter().all(|&row| row == 0xA5A5));
+                Ok(rows[..n].to_vec())
+            }
+            Err(refused) => {
+                assert_eq!(rows, [0xA5A5; 64], "nothing lent is written");
+                Err((refused.why.number(), refused.place))
+            }
+        }
+    }
+
+    fn refused(text: &str, number: u64, line: u64) {
+        assert_eq!(read_64(text.as_bytes()), Err((number, line)), "{text:?}");
+    }
+
+    #[test]
+    fn the_papers_texts() {
+        let five = rows_of(5, &[(0, 1), (1, 2), (2, 3), (3, 4), (0, 4)]);
+        assert_eq!(read_64(FIVE_CYCLE.as_bytes()), Ok(five));
+        assert_eq!(read_64(b"p edge 0 0\n"), Ok(vec![]));
+        refused("", 11, 1);
+    }
+
+    #[test]
+    fn permitted() {
+        let pair = Ok(vec![2, 1]);
+        assert_eq!(read_64(b"c \np edge 2 2\ne 1 2\nc \xff\x00 anything\ne 2 1\nc end\n"), pair);
+        assert_eq!(read_64(b"p edge 2 1\ne 2 1\n"), pair);
+        assert_eq!(read_64(b"p edge 2 3\ne 1 2\ne 1 2\ne 1 2\n"), pair);
+        assert_eq!(read_64(b"p edge 64 0\n"), Ok(vec![0; 64]));
+        assert_eq!(read_64(b"p edge 64 1\ne 64 1\n").unwrap()[0], 1 << 63);
+        assert_eq!(read_64(b"c   \nc c\np edge 1 0\n"), Ok(vec![0]));
+    }
+
+    #[test]
+    fn lines_of_no_shape() {
+        for line in [
+            "",
+            "c",
+            "c---",
+            "C x",
+            " ",
+            "p",
+            "p edge",
+            "p edge 2",
+            "p edge 2 1 ",
+            "p edge 2 1 3",
+            "p  edge 2 1",
+            "p edge  2 1",
+            "p col 2 1",
+            "P edge 2 1",
+            "p edge 02 1",
+            "p edge 2 01",
+            "p edge 10000000 1",
+            "p edge -2 1",
+            "p edge 2,1",
+            "p\tedge 2 1",
+            " p edge 2 1",
+            "e",
+            "e 1",
+            "e 1 ",
+            "e 1 2 ",
+            " e 1 2",
+            "e 1  2",
+            "e  1 2",
+            "e 01 2",
+            "e 1 00",
+            "e 1 12345678",
+            "e 1 2 3",
+            "e 1 x",
+            "e 1\t2",
+            "e 1 2\r",
+            "E 1 2",
+            "n 1 2",
+            "e\u{a0}1 2",
+            "edge 1 2",
+            "e1 2",
+            "cc",
+            "\u{0}",
+        ] {
+            refused(&format!("{line}\n"), 10, 1);
+            refused(&format!("p edge 2 1\nc x\n{line}\ne 1 2\n"), 10, 3);
+            refused(&format!("p edge 2 1\ne 1 2\n{line}\n"), 10, 3);
+        }
+    }
+
+    #[test]
+    fn an_unended_line_is_10_whatever_else() {
+        refused("c", 10, 1);
+        refused("c x", 10, 1);
+        refused("p edge 2 1", 10, 1);
+        refused("p edge 65 1", 10, 1);
+        refused("e 1 2", 10, 1);
+        refused("p edge 2 1\ne 1 2", 10, 2);
+        refused("p edge 2 1\np edge 2 1", 10, 2);
+        refused("p edge 2 1\ne 3 3", 10, 2);
+        refused("\n", 10, 1);
+    }
+
+    #[test]
+    fn head_and_size() {
+        refused("c x\n", 11, 2);
+        refused("c x\nc y\n", 11, 3);
+        refused("c x\ne 1 2\n", 11, 2);
+        refused("e 0 0\n", 11, 1);
+        refused("e 1 2\np edge 2 1\n", 11, 1);
+        refused("p edge 2 0\np edge 2 0\n", 12, 2);
+        refused("p edge 2 0\np edge 9999999 0\n", 12, 2);
+        refused("p edge 65 0\n", 13, 1);
+        refused("p edge 9999999 9999999\n", 13, 1);
+        refused("p edge 64 1\ne 64 65\n", 14, 2);
+    }
+
+    #[test]
+    fn ends_and_counts() {
+        refused("p edge 3 1\ne 0 1\n", 14, 2);
+        refused("p edge 3 1\ne 1 4\n", 14, 2);
+        refused("p edge 3 1\ne 4 4\n", 14, 2);
+        refused("p edge 3 1\ne 0 0\n", 14, 2);
+        refused("p edge 0 1\ne 1 1\n", 14, 2);
+        refused("p edge 3 1\ne 3 3\n", 15, 2);
+        refused("p edge 3 1\n", 16, 2);
+        refused("p edge 3 0\ne 1 2\n", 16, 3);
+        refused("p edge 3 1\ne 1 2\ne 1 2\nc x\n", 16, 5);
+        refused("p edge 3 0\ne 1 2\ne 2 2\n", 15, 3);
+        refused("p edge 3 9999999\ne 1 2\n", 16, 3);
+    }
+
+    #[test]
+    fn room_for_the_rows() {
+        let text = b"c x\np edge 3 1\ne 9 9\n";
+        for room in 0..3 {
+            let mut rows = vec![7; room];
+            assert_eq!(read(text, &mut rows), Err(Refusal::Room.at(2)));
+            assert_eq!(rows, vec![7; room]);
+        }
+        assert_eq!(read(text, &mut [7; 3]), Err(Refusal::Vertex.at(3)));
+        assert_eq!(read(b"p edge 65 0\n", &mut []), Err(Refusal::Size.at(1)));
+        assert_eq!(read(b"p edge 0 0\n", &mut []), Ok(0));
+        let mut many = [7; 70];
+        assert_eq!(read(b"p edge 2 1\ne 1 2\n", &mut many), Ok(2));
+        assert_eq!((&many[..2], &many[2..]), (&[2, 1][..], &[7; 68][..]));
+    }
+
+    #[test]
+    fn lengths() {
+        let mut text = b"p edge 0 0\nc ".to_vec();
+        text.resize(BYTES - 1, b'x');
+        text.push(b'\n');
+        assert_eq!(read_64(&text), Ok(vec![]));
+        text.push(b'\n');
+        assert_eq!(read_64(&text), Err((18, 0)));
+        assert_eq!(read_64(&[0xff; BYTES + 1]), Err((18, 0)));
+        assert_eq!(read_64(&[b'\n'; BYTES]), Err((10, 1)));
+    }
+
+    #[test]
+    fn writing() {
+        let mut out = [b'?'; 50];
+        let rows = rows_of(5, &[(0, 1), (1, 2), (2, 3), (3, 4), (0, 4)]);
+        let text = "p edge 5 5\ne 1 2\ne 1 5\ne 2 3\ne 3 4\ne 4 5\n";
+        assert_eq!(write(&rows, &mut out), Ok(text.len()));
+        assert_eq!(&out[..text.len()], text.as_bytes());
+        assert!(out[text.len()..].iter().all(|&b| b == b'?'));
+        let mut small = vec![b'?'; text.len() - 1];
+        assert_eq!(write(&rows, &mut small), Err(Refusal::Full.bare()));
+        assert!(small.iter().all(|&b| b == b'?'));
+        assert_eq!(write(&rows, &mut vec![0; text.len()]), Ok(text.len()));
+        assert_eq!(write(&[], &mut [0; 11]), Ok(11));
+        assert_eq!(write(&[1], &mut []), Err(Refusal::Itself.at(0)));
+        assert_eq!(write(&[0; 65], &mut []), Err(Refusal::Many.bare()));
+    }
+
+    #[test]
+    fn read_back() {
+        let all: Vec<u64> = (0..64).map(|i| !(1u64 << i)).collect();
+        for rows in [all, vec![0; 64], rows_of(11, &[(0, 10), (9, 10), (3, 7)])] {
+            let mut out = vec![0; BYTES];
+            let length = write(&rows, &mut out).unwrap();
+            assert_eq!(read_64(&out[..length]), Ok(rows));
+        }
+    }
+}

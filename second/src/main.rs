@@ -1,0 +1,30 @@
+//! `second`: reads a clash text from standard input and prints "k K" and "colours C C ..", the fewest groups and each entry's group; or
+//! "refused R line L", and then its exit status is 1.
+
+use std::io::{self, Read, Write};
+use std::process::ExitCode;
+
+use second::{colouring, list, ENTRIES};
+
+fn main() -> io::Result<ExitCode> {
+    let mut text = Vec::new();
+    io::stdin().lock().read_to_end(&mut text)?;
+    let mut rows = [0; ENTRIES];
+    let mut out = io::stdout().lock();
+    match list::read(&text, &mut rows) {
+        Ok(n) => {
+            let division = colouring::fewest(&rows[..n]);
+            writeln!(out, "k {}", division.k)?;
+            write!(out, "colours")?;
+            for colour in division.colours {
+                write!(out, " {colour}")?;
+            }
+            writeln!(out)?;
+            Ok(ExitCode::SUCCESS)
+        }
+        Err(refused) => {
+            writeln!(out, "refused {} line {}", refused.why.number(), refused.place)?;
+            Ok(ExitCode::FAILURE)
+        }
+    }
+}

@@ -1,0 +1,56 @@
+//! Document 01's table of refusals.
+
+/// Each refusal by its name in document 01 (`Itself` for SELF); its value is its number there.
+#[derive(Clone, Copy, Debug, PartialEq, Eq, PartialOrd, Ord, Hash)]
+pub enum Refusal {
+    Many = 1,
+    Stray = 2,
+    Itself = 3,
+    OneSided = 4,
+    Short = 5,
+    Budget = 6,
+    Deep = 7,
+    Line = 10,
+    Headless = 11,
+    Second = 12,
+    Size = 13,
+    Vertex = 14,
+    Loop = 15,
+    Count = 16,
+    Room = 17,
+    Long = 18,
+    Full = 19,
+    SheetLine = 30,
+    Member = 31,
+    Order = 32,
+    Twice = 33,
+    Clash = 34,
+    Ends = 35,
+    Missing = 36,
+    Extra = 37,
+    Colours = 38,
+}
+
+impl Refusal {
+    /// The number that document 01 gives.
+    pub fn number(self) -> u64 {
+        self as u64
+    }
+
+    /// A refusal that names a row, a line, an index or a count of nodes.
+    pub fn at(self, place: usize) -> Refused {
+        Refused { why: self, place: place as u64 }
+    }
+
+    /// A refusal that names no place.
+    pub fn bare(self) -> Refused {
+        self.at(0)
+    }
+}
+
+/// A refusal with what is "also returned" beside it: row, line, index or nodes, by the table; 0 where the table names nothing.
+#[derive(Clone, Copy, Debug, PartialEq, Eq)]
+pub struct Refused {
+    pub why: Refusal,
+    pub place: u64,
+}

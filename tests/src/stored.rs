@@ -1,0 +1,129 @@
+//! What is stored under tests/walks of the lists there, of tests/graphs and of examples.
+
+use std::fs;
+use std::path::{Path, PathBuf};
+
+use bench::lists::{load, Numbers};
+use bench::{described, tuned};
+use second::matrix::{has, rows_of};
+use second::{colouring, list, sheet};
+
+use crate::{lists, BUDGET};
+
+fn folder(name: &str) -> PathBuf {
+    Path::new(env!("CARGO_MANIFEST_DIR")).join(name)
+}
+
+/// A stored list by its name.
+fn stored(name: &str) -> Vec<u64> {
+    let path = ["graphs", "walks", "../examples"].iter().map(|place| folder(place).join(format!("{name}.col"))).find(|path| path.exists());
+    load(&path.unwrap_or_else(|| panic!("no list {name}"))).expect("a list")
+}
+
+/// Lines "NAME NUMBER NUMBER".
+fn lines(file: &str) -> Vec<(String, u64, u64)> {
+    let text = fs::read_to_string(folder("walks").join(file)).expect("stored");
+    let line = |line: &str| match line.split(' ').collect::<Vec<_>>()[..] {
+        [name, first, second] => (name.to_string(), first.parse().unwrap(), second.parse().unwrap()),
+        _ => panic!("{line}"),
+    };
+    text.lines().map(line).collect()
+}
+
+/// k as it is known: of Mycielski's graphs, their kin and the queens' as published; of Kneser's (petersen10, johnson8-2-4) by Lovasz; of the
+/// complement of a cube (hamming6-2) by a perfect matching.
+#[rustfmt::skip]
+const KNOWN: [(&str, usize); 18] = [
+    ("myciel3", 4), ("myciel4", 5), ("myciel5", 6), ("queen5_5", 5), ("queen5_5-both-ways", 5), ("queen6_6", 7), ("queen7_7", 7),
+    ("queen8_8", 9), ("1-FullIns_3", 4), ("2-FullIns_3", 5), ("1-Insertions_3", 4), ("2-Insertions_3", 4), ("3-Insertions_3", 4),
+    ("johnson8-2-4", 6), ("hamming6-2", 32), ("edgeless64", 1), ("complete64", 64), ("petersen10", 3),
+];
+
+#[test]
+fn public_graphs() {
+    for (name, k) in KNOWN {
+        assert_eq!(colouring::fewest(&stored(name)).k, k, "{name}");
+    }
+}
+
+/// The same list with its entries numbered in another order.
+fn renumbered(rows: &[u64], numbers: &mut Numbers) -> Vec<u64> {
+    let mut order: Vec<usize> = (0..rows.len()).collect();
+    for i in (1..order.len()).rev() {
+        order.swap(i, numbers.below(i as u64 + 1) as usize);
+    }
+    let clashes: Vec<(usize, usize)> = (0..rows.len())
+        .flat_map(|i| (0..i).map(move |j| (i, j)))
+        .filter(|&(i, j)| has(rows, i, j))
+        .map(|(i, j)| (order[i], order[j]))
+        .collect();
+    rows_of(rows.len(), &clashes)
+}
+
+/// Renumbering the entries leaves k, whatever the second program's choices then are.
+#[test]
+fn renumbered_graphs() {
+    let mut numbers = Numbers(31);
+    let slow = ["myciel5", "queen8_8", "3-Insertions_3"];
+    let known = KNOWN.into_iter().filter(|(name, _)| !slow.contains(name));
+    for (name, k) in known.chain([("hamming6-4", 7)]) {
+        let rows = stored(name);
+        for _ in 0..8 {
+            assert_eq!(colouring::fewest(&renumbered(&rows, &mut numbers)).k, k, "{name}");
+        }
+    }
+}
+
+/// On Mycielski's graphs the Mycielskian bound is k from a clique of two.
+#[test]
+fn bounds_of_public_graphs() {
+    for (name, clique, mycielskian) in [
+        ("myciel3", 2, 4),
+        ("myciel4", 2, 5),
+        ("myciel5", 2, 6),
+        ("queen5_5", 5, 5),
+        ("queen6_6", 6, 6),
+        ("edgeless64", 1, 1),
+        ("complete64", 64, 64),
+    ] {
+        let rows = stored(name);
+        assert_eq!(described::bounds(&rows), Ok((clique, mycielskian)), "{name}");
+        assert_eq!(tuned::bounds(&rows), Ok((clique, mycielskian)), "{name}");
+    }
+}
+
+#[test]
+fn lists_are_those_made() {
+    for (name, rows) in lists::all() {
+        let text = fs::read_to_string(folder("walks").join(format!("{name}.col"))).expect("stored");
+        assert_eq!(text, list::text_of(&rows), "{name}");
+    }
+}
+
+#[test]
+fn walks_that_end() {
+    let expected = lines("expected");
+    assert!(expected.len() >= 24);
+    for (name, k, nodes) in expected {
+        let rows = stored(&name);
+        let mut colours = vec![0; rows.len()];
+        let walked = described::fewest(&rows, &mut colours, BUDGET).unwrap_or_else(|refused| panic!("{name}: {refused:?}"));
+        assert_eq!((walked.k, walked.nodes), (k, nodes), "{name}");
+        let mut out = [0; 1024];
+        let length = sheet::write(&colours, &mut out).expect("a division");
+        assert_eq!(fs::read(folder("walks/sheets").join(&name)).expect("stored"), &out[..length], "{name}");
+        let mut checked = vec![0; rows.len()];
+        assert_eq!(sheet::check(list::text_of(&rows).as_bytes(), &out[..length], &mut checked), Ok(k as usize), "{name}");
+        assert_eq!(checked, colours, "{name}");
+    }
+}
+
+#[test]
+fn walks_that_do_not_end() {
+    for (name, number, nodes) in lines("refused") {
+        let rows = stored(&name);
+        let refused = tuned::fewest(&rows, &mut vec![0; rows.len()], BUDGET).expect_err(&name);
+        assert_eq!((refused.why.number(), refused.place), (number, nodes), "{name}");
+        assert_eq!(fs::read(folder("walks/sheets").join(&name)).expect("stored"), b"refused 6 line 0\n", "{name}");
+    }
+}

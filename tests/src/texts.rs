@@ -1,0 +1,118 @@
+//! What document 01 says of texts as a whole, on thousands of whole and damaged ones.
+
+use std::collections::BTreeMap;
+
+use bench::lists::Numbers;
+use second::sheet::{self, Part, Text};
+use second::{list, matrix, Refusal};
+
+use crate::inputs::{colours, list_of, matrix as any_matrix, rows_of, sample};
+
+const SAMPLES: usize = 20_000;
+
+#[test]
+fn lists_read_back() {
+    let mut numbers = Numbers(11);
+    for _ in 0..3_000 {
+        let rows = list_of(&mut numbers, 64);
+        let mut out = vec![0xA5; 20_000];
+        let length = list::write(&rows, &mut out).expect("room enough");
+        assert_eq!(rows_of(&out[..length]), Some(rows.clone()));
+        assert!(out[length..].iter().all(|&b| b == 0xA5));
+        assert_eq!(list::write(&rows, &mut vec![0; length]), Ok(length));
+        assert_eq!(list::write(&rows, &mut vec![0; length - 1]), Err(Refusal::Full.bare()));
+    }
+}
+
+#[test]
+fn written_sheets_pass() {
+    let mut numbers = Numbers(12);
+    for _ in 0..3_000 {
+        let given = colours(&mut numbers);
+        let mut out = [0xA5; 1024];
+        match sheet::write(&given, &mut out) {
+            Ok(length) => {
+                let list = list::text_of(&vec![0; given.len()]);
+                let mut lent = vec![0xA5; given.len() + 2];
+                let k = sheet::check(list.as_bytes(), &out[..length], &mut lent);
+                assert_eq!(k, Ok(matrix::groups(&given).expect("numbered by first use")));
+                assert_eq!(lent[..given.len()], given);
+                assert_eq!(lent[given.len()..], [0xA5; 2]);
+            }
+            Err(refused) => {
+                assert_eq!(out, [0xA5; 1024]);
+                match refused.why {
+                    Refusal::Many => assert!(given.len() > 64),
+                    Refusal::Colours => assert_eq!(matrix::groups(&given), Err(refused.place as usize)),
+                    other => panic!("{other:?}"),
+                }
+            }
+        }
+    }
+}
+
+/// The walks' own quick test of 1 to 4 and the second program's agree.
+#[test]
+fn matrices_are_judged_alike() {
+    let mut numbers = Numbers(13);
+    let mut met = BTreeMap::new();
+    for _ in 0..20_000 {
+        let rows = any_matrix(&mut numbers);
+        let judged = matrix::judge(&rows);
+        let walked = bench::tuned::fewest(&rows, &mut vec![0; rows.len()], 0);
+        match judged {
+            Ok(()) => assert_eq!(walked, Err(Refusal::Budget.bare())),
+            Err(refused) => assert_eq!(walked, Err(refused)),
+        }
+        *met.entry(judged.err().map_or(0, |refused| refused.why.number())).or_insert(0) += 1;
+    }
+    assert!((0..=4).all(|number| met.get(&number).is_some_and(|&times| times > 100)), "{met:?}");
+}
+
+/// Every refusal that a check can give is met often; an accepted sheet is a clash-free division; the preview shows what the check says.
+#[test]
+fn damaged_samples() {
+    let mut numbers = Numbers(14);
+    let mut met = BTreeMap::new();
+    for _ in 0..SAMPLES {
+        let sample = sample(&mut numbers);
+        for room in [64, sample.room] {
+            let (mut rows, mut again) = (vec![7; room], vec![7; room]);
+            assert_eq!(list::read(&sample.list, &mut rows), bench::reading::read(&sample.list, &mut again));
+            assert_eq!(rows, again);
+        }
+        let mut lent = vec![0xA5; sample.room];
+        let checked = sheet::check(&sample.list, &sample.sheet, &mut lent);
+        let part = sheet::preview(&sample.list, &sample.sheet, sample.room);
+        let number = match checked {
+            Ok(k) => {
+                let rows = rows_of(&sample.list).expect("a list");
+                assert!(matrix::is_clash_free(&rows, &lent));
+                assert_eq!(matrix::groups(&lent[..rows.len()]), Ok(k));
+                assert!(lent[rows.len()..].iter().all(|&b| b == 0xA5));
+                assert_eq!(part, Part { text: Text::Sheet, offset: 0, length: 0 });
+                (0, Text::Sheet as u8)
+            }
+            Err(fault) => {
+                assert!(lent.iter().all(|&b| b == 0xA5), "nothing lent is written");
+                assert_eq!(part.text, fault.text);
+                let text = if fault.text == Text::List { &sample.list } else { &sample.sheet };
+                let feeds = text[..part.offset].iter().filter(|&&b| b == b'\n').count() as u64;
+                match fault.refused.place {
+                    0 => assert_eq!((part.offset, part.length), (0, 0)),
+                    // Past an unended last line no line is named: such a line is itself at fault.
+                    line => assert_eq!(line, feeds + 1),
+                }
+                assert!(!text[part.offset..part.offset + part.length].contains(&b'\n'));
+                (fault.refused.why.number(), fault.text as u8)
+            }
+        };
+        *met.entry(number).or_insert(0) += 1;
+    }
+    for number in [10, 11, 12, 13, 14, 15, 16, 18] {
+        assert!(met.get(&(number, 0)).is_some_and(|&times| times > 50), "{number} of a list: {met:?}");
+    }
+    for number in [0, 5, 18, 30, 31, 32, 33, 34, 35, 36, 37] {
+        assert!(met.get(&(number, 1)).is_some_and(|&times| times > 50), "{number} of a sheet: {met:?}");
+    }
+}
