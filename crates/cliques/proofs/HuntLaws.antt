@@ -1,7 +1,7 @@
 -- The hunt for the largest clique in words: what a vertex opens, and one turn of the hunt.
 -- Assumes nothing.
 use mathlib.Core.Path.{_≡_, refl, sym, ap, _∙_, subst}
-use mathlib.Core.Logic.{inl, _≢_}
+use mathlib.Core.Logic.{inl, inr, _≢_}
 use mathlib.Core.Bool.{Bool, true, false, not, _&&_, _||_, cond}
 use mathlib.Core.List.{List, [], _∷_, _++_, map}
 use Prim.Native.Nat.{ℕ, zero, _≤_, _<_}
@@ -12,9 +12,10 @@ use lib.Dec.{T, ltb, ltb→lt, lt→ltb}
 use lib.ListN.{length, getD}
 use borrow.Author.Tests.{lt-ltb, le-ltb}
 use Rattle.sets.specs.Lists.{In, members, over}
-use Rattle.sets.specs.Set.{has, size, IsMeet, IsLess, IsBelow, IsLowest}
-use Rattle.sets.proofs.TestLaws.{and-l, and-r, and-t, not-t, t-not, T→true}
-use Rattle.sets.proofs.MemberLaws.{In-members}
+use Rattle.sets.specs.Set.{has, size, IsJoin, IsMeet, IsLess, IsBelow, IsLowest}
+use Rattle.sets.proofs.TestLaws.{and-l, and-r, and-t, or-l, or-r, not-t, t-not, T→true}
+use Rattle.sets.proofs.ListLaws.{noDup-le}
+use Rattle.sets.proofs.MemberLaws.{members-count, In-members, members-In}
 use Rattle.sets.proofs.SetLaws.{has-none}
 use Rattle.graphs.specs.Graph.{Graph, live, vertices}
 use Rattle.graphs.specs.Held.{view, Held}
@@ -22,10 +23,10 @@ use Rattle.graphs.specs.declared.Node.{Node}
 use Rattle.graphs.proofs.GraphLaws.{live-of, of-live, vertices-live}
 use Rattle.graphs.proofs.LoopLaws.{members-narrow}
 use Rattle.cliques.specs.Clique.{isIn, admits, clique, IsClique}
-use Rattle.cliques.specs.Growth.{IsSetOf, elements, scan, Grown, Grows, Within, after}
+use Rattle.cliques.specs.Growth.{IsSetOf, elements, scan, Grown, Grows, Within, after, first}
 use Rattle.cliques.specs.declared.Growth.{Growth}
 use Rattle.cliques.proofs.ListLaws.{of-in, members-at, larger, larger-le}
-use Rattle.cliques.proofs.ScanLaws.{scan-keeps, scan-skip, scan-clique, alone-clique, empty-clique}
+use Rattle.cliques.proofs.ScanLaws.{scan-keeps, scan-from, scan-skip, scan-clique, alone-clique, empty-clique}
 use Rattle.cliques.proofs.ChainLaws.{chain, chain-open, chain-agree, chain-none}
 use Rattle.cliques.proofs.CliqueLaws.{second, clique-chain}
 use Rattle.cliques.proofs.WordLaws.{none-isIn, size-fewer, size-length, near-row, row-loop}
@@ -121,40 +122,37 @@ module _ (h : Node) (k : Held h) where
   near-live l c e x t = subst T (sym (k .lives x)) (and-l (live n g x) (admits g l x) (subst T (e .near x) t))
 
   -- one turn
-  module _ (free best s free′ : ℕ) (c d : Growth) (i : Hunt free best) (w : IsLowest 64 free s) (gc : Grown n g (scan g (s ∷ []) (rest s)) c)
-      (wf : IsLess free (c .set) free′) (gd : Grows n g (c .near) c d) where
-    abbrev first : List ℕ
-    first = scan g (s ∷ []) (rest s)
+  module _ (free best s free′ : ℕ) (c : Growth) (i : Hunt free best) (w : IsLowest 64 free s) (gc : Grown n g (first n g s) c)
+      (wf : IsLess free (c .set) free′) where
+    abbrev own : List ℕ
+    own = first n g s
 
     live-s : T (live n g s)
     live-s = subst T (k .lives s) (i .free-live s (w .member))
 
-    first-has-s : In s first
-    first-has-s = scan-keeps g (s ∷ []) (rest s) s (inl refl)
+    own-has-s : In s own
+    own-has-s = scan-keeps g (s ∷ []) (rest s) s (inl refl)
 
     pub hunt-less : size 64 free′ < size 64 free
     hunt-less =
         size-fewer free free′ s (w .below) (λ x t. and-l (has free x) (not (has (c .set) x)) (subst T (wf x) t)) (w .member)
-        (λ t. t-not (has (c .set) s) (and-r (has free s) (not (has (c .set) s)) (subst T (wf s) t)) (subst T (sym (gc .members s)) (of-in s first first-has-s)))
+        (λ t. t-not (has (c .set) s) (and-r (has free s) (not (has (c .set) s)) (subst T (wf s) t)) (subst T (sym (gc .members s)) (of-in s own own-has-s)))
 
-    second-is : scan g first (elements (c .near)) ≡ second n g first
+    second-is : scan g own (elements (c .near)) ≡ second n g own
     second-is =
-        along first (c .near) (live n g) (λ x t. t) (λ x t. and-l (live n g x) (admits g first x) (subst T (gc .near x) t))
-        (λ x t a. subst T (sym (gc .near x)) (and-t (live n g x) (admits g first x) t a))
+        along own (c .near) (live n g) (λ x t. t) (λ x t. and-l (live n g x) (admits g own x) (subst T (gc .near x) t))
+        (λ x t a. subst T (sym (gc .near x)) (and-t (live n g x) (admits g own x) t a))
 
-    second-set : IsSetOf (second n g first) (d .set)
-    second-set = subst (λ l. IsSetOf l (d .set)) second-is (gd first gc .members)
-
-    first-clique : IsClique n g first
-    first-clique =
+    own-clique : IsClique n g own
+    own-clique =
         scan-clique n g (k .good) (s ∷ []) (rest s) (λ x j. live-of n g x (and-l (live n g x) (ltb s x) (In-members (after s (live n g)) n x j .1)))
         (alone-clique n g (k .good) s (live-of n g s live-s))
 
-    second-clique : IsClique n g (second n g first)
-    second-clique = scan-clique n g (k .good) first (vertices n g) (vertices-live n g) first-clique
+    second-clique : IsClique n g (second n g own)
+    second-clique = scan-clique n g (k .good) own (vertices n g) (vertices-live n g) own-clique
 
     -- the clique that s opens, and then those that what is still free opens
-    chain-turn : chain g (λ x. not (has free x)) (vertices n g) ≡ first ∷ chain g (λ x. not (has free′ x)) (vertices n g)
+    chain-turn : chain g (λ x. not (has free x)) (vertices n g) ≡ own ∷ chain g (λ x. not (has free′ x)) (vertices n g)
     chain-turn =
         ap (chain g (λ x. not (has free x))) split
         ∙ chain-open g (λ x. not (has free x)) (λ x. not (has free′ x)) (members (live n g) s) (rest s) s
@@ -162,9 +160,9 @@ module _ (h : Node) (k : Held h) where
         (λ t. t-not (has free s) t (w .member))
         (λ x j. not-t (has free′ x) (λ t. w .least x (In-members (live n g) s x j .0) (and-l (has free x) (not (has (c .set) x)) (subst T (wf x) t))))
         (not-t (has free′ s)
-        (λ t. t-not (has (c .set) s) (and-r (has free s) (not (has (c .set) s)) (subst T (wf s) t)) (subst T (sym (gc .members s)) (of-in s first first-has-s))))
-        (λ x j. ap not (wf x ∙ ap (λ (b : Bool). has free x && not b) (gc .members x)) ∙ morgan (has free x) (isIn x first))
-        ∙ ap (λ (vs : List ℕ). first ∷ chain g (λ x. not (has free′ x)) vs) (sym split)
+        (λ t. t-not (has (c .set) s) (and-r (has free s) (not (has (c .set) s)) (subst T (wf s) t)) (subst T (sym (gc .members s)) (of-in s own own-has-s))))
+        (λ x j. ap not (wf x ∙ ap (λ (b : Bool). has free x && not b) (gc .members x)) ∙ morgan (has free x) (isIn x own))
+        ∙ ap (λ (vs : List ℕ). own ∷ chain g (λ x. not (has free′ x)) vs) (sym split)
       where
         split : vertices n g ≡ members (live n g) s ++ s ∷ rest s
         split = members-at (live n g) s n (live-below s live-s) live-s
@@ -174,7 +172,7 @@ module _ (h : Node) (k : Held h) where
         morgan true false = refl
         morgan false b = refl
 
-    turned : over larger (larger (i .kept) (second n g first)) (map (second n g) (chain g (λ x. not (has free′ x)) (vertices n g))) ≡ clique n g
+    turned : over larger (larger (i .kept) (second n g own)) (map (second n g) (chain g (λ x. not (has free′ x)) (vertices n g))) ≡ clique n g
     turned = ap (λ (cs : List (List ℕ)). over larger (i .kept) (map (second n g) cs)) (sym chain-turn) ∙ i .goal
 
     free-live′ : Within free′ (h .live)
@@ -183,29 +181,52 @@ module _ (h : Node) (k : Held h) where
     size-kept : size 64 best ≡ length (i .kept)
     size-kept = size-length n g (i .kept) best (k .few) (i .kept-is) (i .kept-set)
 
-    size-second : size 64 (d .set) ≡ length (second n g first)
-    size-second = size-length n g (second n g first) (d .set) (k .few) second-clique second-set
-
-    pub hunt-new : size 64 best < size 64 (d .set) → Hunt free′ (d .set)
-    hunt-new l = record {
-      free-live = free-live′;
-      kept = second n g first;
-      kept-is = second-clique;
-      kept-set = second-set;
-      goal =
-          ap (λ (b : List ℕ). over larger b (map (second n g) (chain g (λ x. not (has free′ x)) (vertices n g))))
-          (sym (ap (λ (t : Bool). cond t (second n g first) (i .kept)) (lt-ltb (length (i .kept)) (length (second n g first)) (omega (arith, size-kept, size-second)))))
-          ∙ turned;
-    }
-
-    pub hunt-old : size 64 (d .set) ≤ size 64 best → Hunt free′ best
-    hunt-old l = record {
+    -- it is no larger than the best
+    hunt-stays : length (second n g own) ≤ size 64 best → Hunt free′ best
+    hunt-stays l = record {
       free-live = free-live′;
       kept = i .kept;
       kept-is = i .kept-is;
       kept-set = i .kept-set;
       goal =
           ap (λ (b : List ℕ). over larger b (map (second n g) (chain g (λ x. not (has free′ x)) (vertices n g))))
-          (sym (ap (λ (t : Bool). cond t (second n g first) (i .kept)) (le-ltb (length (i .kept)) (length (second n g first)) (omega (arith, size-kept, size-second)))))
+          (sym (ap (λ (t : Bool). cond t (second n g own) (i .kept)) (le-ltb (length (i .kept)) (length (second n g own)) (omega (arith, size-kept)))))
           ∙ turned;
     }
+
+    -- all that it has and admits would not make it larger
+    pub hunt-skip : (j : ℕ) → IsJoin (c .set) (c .near) j → size 64 j ≤ size 64 best → Hunt free′ best
+    unfolding elements
+    hunt-skip j wj l =
+        hunt-stays (le-trans (noDup-le (second n g own) (members (has j) 64) (second-clique .once-each) there) (le-trans (le-of-eq (members-count (has j) 64)) l))
+      where
+        there : (x : ℕ) → In x (second n g own) → In x (members (has j) 64)
+        there x m =
+            members-In (has j) 64 x (let b = second-clique .lives x m .below in let z : x < 64 = omega (arith, k .few) in z)
+            (subst T (sym (wj x)) (elim (scan-from g own (elements (c .near)) x (subst (λ (vs : List ℕ). In x vs) (sym second-is) m)) [
+              | inl q ↦ or-l (has (c .set) x) (has (c .near) x) (subst T (sym (gc .members x)) (of-in x own q))
+              | inr q ↦ or-r (has (c .set) x) (has (c .near) x) (In-members (has (c .near)) 64 x q .1)
+            ]))
+
+    -- it grows to d
+    module _ (d : Growth) (gd : Grows n g (c .near) c d) where
+      second-set : IsSetOf (second n g own) (d .set)
+      second-set = subst (λ l. IsSetOf l (d .set)) second-is (gd own gc .members)
+
+      size-second : size 64 (d .set) ≡ length (second n g own)
+      size-second = size-length n g (second n g own) (d .set) (k .few) second-clique second-set
+
+      pub hunt-new : size 64 best < size 64 (d .set) → Hunt free′ (d .set)
+      hunt-new l = record {
+        free-live = free-live′;
+        kept = second n g own;
+        kept-is = second-clique;
+        kept-set = second-set;
+        goal =
+            ap (λ (b : List ℕ). over larger b (map (second n g) (chain g (λ x. not (has free′ x)) (vertices n g))))
+            (sym (ap (λ (t : Bool). cond t (second n g own) (i .kept)) (lt-ltb (length (i .kept)) (length (second n g own)) (omega (arith, size-kept, size-second)))))
+            ∙ turned;
+      }
+
+      pub hunt-old : size 64 (d .set) ≤ size 64 best → Hunt free′ best
+      hunt-old l = hunt-stays (omega (arith, size-second))

@@ -45,6 +45,9 @@ pub size-fewer : (s r v : ℕ) → v < 64 → Within r s → T (has s v) → ¬ 
 unfolding upto
 size-fewer s r v b f t q = count-lt (has r) (has s) (upto 64) f v (In-table (λ i. i) 64 v b) q t
 
+pub size-none : size 64 0 ≡ 0
+size-none = sym (members-count (has 0) 64) ∙ ap length (members-none (has 0) 64 (λ j b t. subst T (has-none j) t))
+
 -- the size of a clique's set is the clique's
 pub size-length : (n : ℕ) (g : Graph) (c : List ℕ) (w : ℕ) → n ≤ 64 → IsClique n g c → IsSetOf c w → size 64 w ≡ length c
 size-length n g c w few q p =

@@ -7,13 +7,14 @@
 --   Grows n g left c r: r is c grown by the members of left, lowest first
 --   Within s t        : each member of s is one of t
 --   after s p x       : x passes p and comes after s
+--   first n g s       : the clique that s opens: it grows along the live vertices after s
 --   Reaches n g e w   : w is the set of the clique, or of another as large as e asks, and no larger than it
 --
 -- Assumes nothing.
 use mathlib.Core.Path.{_≡_}
 use mathlib.Core.Logic.{_⊎_}
 use mathlib.Core.Bool.{Bool, _&&_}
-use mathlib.Core.List.{List}
+use mathlib.Core.List.{List, [], _∷_}
 use Prim.Native.Nat.{ℕ, _≤_}
 use lib.Dec.{T, ltb}
 use lib.ListN.{length}
@@ -44,6 +45,9 @@ Within s t = (x : ℕ) → T (has s x) → T (has t x)
 
 abbrev pub after : ℕ → (ℕ → Bool) → ℕ → Bool
 after s p x = p x && ltb s x
+
+abbrev pub first : ℕ → Graph → ℕ → List ℕ
+first n g s = scan g (s ∷ []) (members (after s (live n g)) n)
 
 abbrev pub Reaches : ℕ → Graph → ℕ → ℕ → Type 0
 Reaches n g e w = IsSetOf (clique n g) w ⊎ ((e ≤ size 64 w) × (size 64 w ≤ length (clique n g)))

@@ -1,21 +1,19 @@
 // The clique of a node: document 01's, grown a clique at a time in words.
 use graphs::Node;
 use sets::below;
+use sets::join;
 use sets::less;
 use sets::lowest;
 use sets::meet;
 use sets::size;
 use sets::with;
 ghost use mathlib.Core.Path.{_≡_};
-ghost use mathlib.Core.List.{List, [], _∷_};
-ghost use Prim.Native.Nat.{ℕ, _<_, _≤_};
+ghost use Prim.Native.Nat.{ℕ, _<_};
 ghost use lib.Dec.{T};
-ghost use Rattle.sets.specs.Lists.{members};
 ghost use Rattle.sets.specs.Set.{has};
-ghost use Rattle.graphs.specs.Graph.{live};
-ghost use Rattle.graphs.specs.Held.{view, Held};
+ghost use Rattle.graphs.specs.Held.{view, Held, Holds, Each};
 ghost use Rattle.cliques.specs.Clique.{clique as cliqueOf};
-ghost use Rattle.cliques.specs.Growth.{IsSetOf, scan, Grown, Grows, Within, after, Reaches};
+ghost use Rattle.cliques.specs.Growth.{IsSetOf, first, Grown, Grows, Within, Reaches};
 
 // A clique on the way: its members, and the live vertices that it admits.
 pub struct Growth {
@@ -24,18 +22,17 @@ pub struct Growth {
 }
 
 // c grown by the vertices of `left`, lowest first: each that is still adjacent to all of c.
-pub fn grow(h: Node, c: Growth, left: u64) -> Growth
-    requires { ⌜ Held h ⌝ }
+pub fn grow(rows: &[u64; 64], c: Growth, left: u64) -> Growth
+    requires { ⌜ ((l : ℕ) × Within (c .near) l × Holds l (now rows)) ⌝ }
     requires { ⌜ Within left (c .near) ⌝ }
-    requires { ⌜ Within (c .near) (h .live) ⌝ }
-    ensures { λ r. ⌜ Grows (h .n) (view h) left c r ⌝ }
+    ensures { λ r. ⌜ ((l : ℕ) → Within (c .near) l → Each l (now (rows .entry)) (λ h. Grows (h .n) (view h) left c r)) ⌝ }
 {
     let mut set = c.set;
     let mut near = c.near;
     let mut rest = left;
     while rest != 0 {
         let v = lowest(rest);
-        let row = h.rows[v];
+        let row = rows[v];
         set = with(set, v);
         near = meet(near, row);
         rest = meet(rest, row);
@@ -47,41 +44,55 @@ pub fn grow(h: Node, c: Growth, left: u64) -> Growth
 }
 
 // The clique that s opens: it grows along the live vertices after s.
-pub fn opened(h: Node, s: usize) -> Growth
-    requires { ⌜ Held h ⌝ }
+pub fn opened(live: u64, rows: &[u64; 64], s: usize) -> Growth
+    requires { ⌜ Holds live (now rows) ⌝ }
     requires { ⌜ s < 64 ⌝ }
-    requires { ⌜ T (has (h .live) s) ⌝ }
-    ensures { λ r. ⌜ Grown (h .n) (view h) (scan (view h) (s ∷ []) (members (after s (live (h .n) (view h))) (h .n))) r ⌝ }
+    requires { ⌜ T (has live s) ⌝ }
+    ensures { λ r. ⌜ Each live (now (rows .entry)) (λ h. Grown (h .n) (view h) (first (h .n) (view h) s) r) ⌝ }
 {
-    let near = meet(h.live, h.rows[s]);
+    let near = meet(live, rows[s]);
     let c = Growth {
         set: with(0, s),
         near: near,
     };
-    grow(h, c, less(near, below(s)))
+    grow(rows, c, less(near, below(s)))
 }
 
-// The clique, or a clique on the way to it that has as many members as are enough. The next opener is the lowest vertex in no clique yet; each
-// clique grows along the vertices after its opener, and then along all; the first that is the largest stays.
-pub fn clique_up_to(h: Node, enough: usize) -> u64
-    requires { ⌜ Held h ⌝ }
-    ensures { λ r. ⌜ Reaches (h .n) (view h) enough r ⌝ }
+// The clique of lent rows, or a clique on the way to it that has as many members as are enough. The next opener is the lowest vertex in no clique
+// yet; each clique grows along the vertices after its opener, and then along all; the first that is the largest stays. Where all that a clique
+// admits would not make it the largest, it does not grow.
+pub fn clique_among(live: u64, rows: &[u64; 64], enough: usize) -> u64
+    requires { ⌜ Holds live (now rows) ⌝ }
+    ensures { λ r. ⌜ Each live (now (rows .entry)) (λ h. Reaches (h .n) (view h) enough r) ⌝ }
 {
-    let mut free = h.live;
+    let mut free = live;
     let mut best: u64 = 0;
+    let mut most: usize = 0;
     while free != 0 {
         let s = lowest(free);
-        let first = opened(h, s);
-        free = less(free, first.set);
-        let second = grow(h, first, first.near);
-        if size(best) < size(second.set) {
-            best = second.set;
-            if enough <= size(best) {
-                return best;
+        let c = opened(live, rows, s);
+        free = less(free, c.set);
+        if most < size(join(c.set, c.near)) {
+            let d = grow(rows, c, c.near);
+            let members = size(d.set);
+            if most < members {
+                best = d.set;
+                most = members;
+                if enough <= most {
+                    return best;
+                }
             }
         }
     }
     best
+}
+
+// The clique of a node, or a clique on the way to it that has as many members as are enough.
+pub fn clique_up_to(h: Node, enough: usize) -> u64
+    requires { ⌜ Held h ⌝ }
+    ensures { λ r. ⌜ Reaches (h .n) (view h) enough r ⌝ }
+{
+    clique_among(h.live, &h.rows, enough)
 }
 
 // The members of the clique.
@@ -89,5 +100,5 @@ pub fn clique(h: Node) -> u64
     requires { ⌜ Held h ⌝ }
     ensures { λ r. ⌜ IsSetOf (cliqueOf (h .n) (view h)) r ⌝ }
 {
-    clique_up_to(h, 65)
+    clique_among(h.live, &h.rows, 65)
 }

@@ -13,6 +13,7 @@ use borrow.Author.Tests.{lt-ltb, le-ltb}
 use Rattle.sets.specs.Lists.{In, count, upto, members, select, cross, over}
 use Rattle.sets.specs.Set.{has, size, IsWithout, IsMeet, IsLess, IsLowest}
 use Rattle.sets.proofs.TestLaws.{and-l, and-r, T→true}
+use Rattle.sets.proofs.ListLaws.{count-le}
 use Rattle.sets.proofs.MemberLaws.{count-agree, members-agree, members-none, In-members}
 use Rattle.graphs.specs.Graph.{live, gap, common, pair}
 use Rattle.graphs.specs.Held.{Held, view}
@@ -42,6 +43,17 @@ module _ (rows : List ℕ) (near u v m c : ℕ) (l : Lead) (h : IsMeet near (get
   pub lead-kept : c + 1 ≤ l .size → l ≡ lead (shared rows near) u l v
   lead-kept b =
       sym (ap (λ (t : Bool). cond t (record { size = suc (shared rows near v); u = u; v = v }) l) (le-ltb (l .size) (suc (shared rows near v)) (subst (λ (k : ℕ). k ≤ l .size) plus b)))
+
+-- no v leads where near is too small: what u and v share are members of near
+pub lead-none : (rows : List ℕ) (near u : ℕ) (l : Lead) (vs : List ℕ) → size 64 near < l .size → over (lead (shared rows near) u) l vs ≡ l
+lead-none rows near u l [] b = refl
+lead-none rows near u l (v ∷ vs) b =
+    ap (λ (k : Lead). over (lead (shared rows near) u) k vs)
+    (ap (λ (t : Bool). cond t (record { size = suc (shared rows near v); u = u; v = v }) l) (le-ltb (l .size) (suc (shared rows near v)) (omega (arith, few))))
+    ∙ lead-none rows near u l vs b
+  where
+    few : shared rows near v ≤ size 64 near
+    few = count-le (λ w. has near w && has (getD rows v zero) w) (has near) (upto 64) (λ w t. and-l (has near w) (has (getD rows v zero) w) t)
 
 -- ---- one row
 

@@ -158,7 +158,7 @@ link-next new u left w next row b t h i x y = go (ℕ-discrete x w)
     go (no q) = rw (getD-set-other new w x row zero q, h x, ne-eqb w x (λ e. q (sym e)), and-true (has left x))
 
 module _ (h r : Node) (u v : ℕ) (p : AtPair h u v) (near : ℕ) (linked : List ℕ) (joined : ℕ)
-    (long : length linked ≡ 64) (same : r .n ≡ h .n) (is-near : IsMeet (getD (h .rows) v zero) (h .live) near) (is-linked : Linked (h .rows) u near linked)
+    (long : length (h .rows) ≡ 64) (same : r .n ≡ h .n) (is-near : IsMeet (getD (h .rows) v zero) (h .live) near) (is-linked : Linked (h .rows) u near linked)
     (is-joined : IsJoin (getD (h .rows) u zero) (getD (h .rows) v zero) joined) (is-rows : r .rows ≡ set linked u joined)
     (is-names : Renamed (h .names) u v (r .names)) (is-live : IsWithout (h .live) v (r .live)) where
   abbrev row : ℕ → ℕ
@@ -196,11 +196,11 @@ module _ (h r : Node) (u v : ℕ) (p : AtPair h u v) (near : ℕ) (linked : List
   row-u : (y : ℕ) → has (getD (r .rows) u zero) y ≡ (has (row u) y || has (row v) y)
   row-u y =
       ap (λ (l : List ℕ). has (getD l u zero) y) is-rows
-      ∙ ap (λ (m : ℕ). has m y) (getD-set-same linked u joined zero (omega (arith, long, p .chosen .live-u .below, p .held .few))) ∙ is-joined y
+      ∙ ap (λ (m : ℕ). has m y) (getD-set-same linked u joined zero (omega (arith, is-linked .long, long, p .chosen .live-u .below, p .held .few))) ∙ is-joined y
 
   row-other : (x y : ℕ) → x ≢ u → has (getD (r .rows) x zero) y ≡ (has (row x) y || (has (h .live) x && has (row x) v && eqb y u))
   row-other x y q =
-      ap (λ (l : List ℕ). has (getD l x zero) y) is-rows ∙ ap (λ (m : ℕ). has m y) (getD-set-other linked u x joined zero q) ∙ is-linked x y
+      ap (λ (l : List ℕ). has (getD l x zero) y) is-rows ∙ ap (λ (m : ℕ). has m y) (getD-set-other linked u x joined zero q) ∙ is-linked .is x y
       ∙ ap₂ (λ (s t : Bool). has (row x) y || (s && t)) (is-near x ∙ turn x) (eqb-turn u y)
 
   live-is : (x : ℕ) → has (r .live) x ≡ (not (eqb x v) && has (h .live) x)

@@ -3,7 +3,7 @@
 --   IsRoot rows r        : r is the node of the list of these rows
 --   AtPair h u v         : u and v may be merged or separated in h
 --   Becomes h r g        : r is a node of as many entries as h, and holds g
---   Linked rows u s r    : r are these rows, with u in each row of s
+--   Linked rows u s r    : r are as many rows, these, with u in each row of s
 --   Renamed names u v r  : r are these names, with u for v
 --   shared rows near v   : how many members of near are in the row of v
 --   lead f u l v         : the pair u, v, where f v is more than what leads so far, else what leads
@@ -38,8 +38,9 @@ pub record Becomes (h r : Node) (g : Graph) : Type 0 where
   pub same : r .n ≡ h .n
   pub is : view r ≡ g
 
-abbrev pub Linked : List ℕ → ℕ → ℕ → List ℕ → Type 0
-Linked rows u s r = (x y : ℕ) → has (getD r x zero) y ≡ (has (getD rows x zero) y || (has s x && eqb u y))
+pub record Linked (rows : List ℕ) (u s : ℕ) (r : List ℕ) : Type 0 where
+  pub long : length r ≡ length rows
+  pub is : (x y : ℕ) → has (getD r x zero) y ≡ (has (getD rows x zero) y || (has s x && eqb u y))
 
 abbrev pub Renamed : List ℕ → ℕ → ℕ → List ℕ → Type 0
 Renamed names u v r = (i : ℕ) → getD r i zero ≡ to u v (getD names i zero)

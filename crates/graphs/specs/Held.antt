@@ -3,11 +3,15 @@
 --   view h     : the graph that the node h holds. Rows are read through the live set: bits of vertices that have left do not count
 --   Held h     : h's live set is the set of live vertices, its entries are at most 64, and its graph is a good one
 --   choiceOf c : what a choice says: the pair, or none
+--   holding live rows m : the node m, with these live vertices and rows
+--   Holds live rows     : some node is held with these live vertices and rows
+--   Each live rows P    : P is true of every node that is held with them. So a function that is lent rows alone says what they hold
 --
 -- Assumes nothing.
 use mathlib.Core.Path.{_≡_}
 use mathlib.Core.Bool.{_&&_}
 use mathlib.Core.Option.{Option, none, some}
+use mathlib.Core.List.{List}
 use Prim.Native.Nat.{ℕ, zero, _≤_}
 use lib.ListN.{getD}
 use Rattle.sets.specs.Set.{has}
@@ -31,3 +35,12 @@ pub record Held (h : Node) : Type 0 where
 abbrev pub choiceOf : Choice → Option (ℕ × ℕ)
 choiceOf Complete = none
 choiceOf (Split u v) = some (u, v)
+
+abbrev pub holding : ℕ → List ℕ → Node → Node
+holding live rows m = record { n = m .n; live = live; rows = rows; names = m .names }
+
+abbrev pub Holds : ℕ → List ℕ → Type 0
+Holds live rows = (m : Node) × Held (holding live rows m)
+
+abbrev pub Each : ℕ → List ℕ → (Node → Type 0) → Type 0
+Each live rows P = (m : Node) → Held (holding live rows m) → P (holding live rows m)

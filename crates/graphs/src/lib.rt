@@ -10,7 +10,7 @@ use sets::with;
 use sets::without;
 ghost use mathlib.Core.Path.{_≡_};
 ghost use Prim.Native.Nat.{_<_};
-ghost use lib.ListN.{take};
+ghost use lib.ListN.{length, take};
 ghost use Rattle.sets.specs.Lists.{members, over};
 ghost use Rattle.sets.specs.Set.{has as member};
 ghost use Rattle.clashes.specs.Matrix.{Sound};
@@ -63,18 +63,18 @@ pub fn root(rows: &[u64]) -> Node
 }
 
 // u becomes a neighbour of each vertex of s.
-fn linked(rows: [u64; 64], u: usize, s: u64) -> [u64; 64]
+fn link(rows: &mut [u64; 64], u: usize, s: u64)
+    requires { ⌜ length (now rows) ≡ 64 ⌝ }
     requires { ⌜ u < 64 ⌝ }
-    ensures { λ r. ⌜ Linked rows u s r ⌝ }
+    ensures { λ r. ⌜ Linked (now (rows .entry)) u s (now (rows .exit)) ⌝ }
 {
-    let mut new = rows;
     let mut left = s;
     while left != 0 {
         let x = lowest(left);
         left = without(left, x);
-        new[x] = with(new[x], u);
+        let row = with(rows[x], u);
+        rows[x] = row;
     }
-    new
 }
 
 // u for v.
@@ -88,18 +88,17 @@ fn renamed(w: u8, u: u8, v: u8) -> u8
 }
 
 // Every entry that v stood for has u now.
-fn all_renamed(names: [u8; 64], u: u8, v: u8) -> [u8; 64]
+fn rename(names: &mut [u8; 64], u: u8, v: u8)
+    requires { ⌜ length (now names) ≡ 64 ⌝ }
     requires { ⌜ u < v ⌝ }
-    ensures { λ r. ⌜ Renamed names u v r ⌝ }
+    ensures { λ r. ⌜ Renamed (now (names .entry)) u v (now (names .exit)) ⌝ }
 {
-    let mut new = names;
     let mut i = 0;
     while i < 64 {
-        let w = new[i];
-        new[i] = renamed(w, u, v);
+        let w = renamed(names[i], u, v);
+        names[i] = w;
         i += 1;
     }
-    new
 }
 
 // v leaves, the row of u is the two rows joined, neighbours of v become neighbours of u.
@@ -107,19 +106,15 @@ pub fn merged(h: Node, u: usize, v: usize) -> Node
     requires { ⌜ AtPair h u v ⌝ }
     ensures { λ r. ⌜ Becomes h r (merge u v (view h)) ⌝ }
 {
-    let rows = h.rows;
-    let names = h.names;
-    let near = meet(rows[v], h.live);
-    let mut new = linked(rows, u, near);
-    new[u] = join(rows[u], rows[v]);
-    let renamed = all_renamed(names, u as u8, v as u8);
-    let live = without(h.live, v);
-    Node {
-        n: h.n,
-        live: live,
-        rows: new,
-        names: renamed,
-    }
+    let mut r = h;
+    let near = meet(r.rows[v], r.live);
+    let row = join(r.rows[u], r.rows[v]);
+    link(&mut r.rows, u, near);
+    r.rows[u] = row;
+    rename(&mut r.names, u as u8, v as u8);
+    let live = without(r.live, v);
+    r.live = live;
+    r
 }
 
 // u and v become adjacent.
@@ -140,12 +135,11 @@ pub fn is_complete(h: Node) -> bool
     requires { ⌜ Held h ⌝ }
     ensures { λ r. ⌜ r ≡ complete (h .n) (view h) ⌝ }
 {
-    let rows = h.rows;
     let mut left = h.live;
     while left != 0 {
         let x = lowest(left);
         left = without(left, x);
-        let apart = less(left, rows[x]);
+        let apart = less(left, h.rows[x]);
         if apart != 0 {
             return false;
         }
@@ -153,10 +147,13 @@ pub fn is_complete(h: Node) -> bool
     true
 }
 
-// The leading pair after u with each vertex of apart: near are u's neighbours.
-fn led(rows: [u64; 64], u: usize, near: u64, apart: u64, best: Lead) -> Lead
-    ensures { λ r. ⌜ r ≡ over (lead (shared rows near) u) best (members (member apart) 64) ⌝ }
+// The leading pair after u with each vertex of apart: near are u's neighbours. None of them leads where near is too small.
+fn led(rows: &[u64; 64], u: usize, near: u64, apart: u64, best: Lead) -> Lead
+    ensures { λ r. ⌜ r ≡ over (lead (shared (now (rows .entry)) near) u) best (members (member apart) 64) ⌝ }
 {
+    if size(near) < best.size {
+        return best;
+    }
     let mut best = best;
     let mut left = apart;
     while left != 0 {
@@ -179,7 +176,6 @@ pub fn choose(h: Node) -> Choice
     requires { ⌜ Held h ⌝ }
     ensures { λ r. ⌜ choiceOf r ≡ pair (h .n) (view h) ⌝ }
 {
-    let rows = h.rows;
     let live = h.live;
     let mut best = Lead {
         size: 0,
@@ -190,9 +186,9 @@ pub fn choose(h: Node) -> Choice
     while left != 0 {
         let u = lowest(left);
         left = without(left, u);
-        let near = meet(rows[u], live);
+        let near = meet(h.rows[u], live);
         let apart = less(left, near);
-        best = led(rows, u, near, apart, best);
+        best = led(&h.rows, u, near, apart, best);
     }
     if best.size == 0 {
         return Choice::Complete;
@@ -206,12 +202,11 @@ pub fn colours(h: Node) -> [u8; 64]
     ensures { λ r. ⌜ take (h .n) r ≡ grouping (h .n) (view h) ⌝ }
 {
     let n = h.n;
-    let names = h.names;
     let mut out: [u8; 64] = [0; 64];
     let mut next: u8 = 0;
     let mut i = 0;
     while i < n {
-        let w = names[i] as usize;
+        let w = h.names[i] as usize;
         if w == i {
             out[i] = next;
             next += 1;

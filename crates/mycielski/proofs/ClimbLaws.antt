@@ -12,16 +12,17 @@ use borrow.Author.Tests.{le-leb, lt-leb}
 use Rattle.sets.specs.Lists.{count, all, any, upto, lowest}
 use Rattle.sets.specs.Set.{has, size, IsLowest}
 use Rattle.sets.proofs.TestLaws.{and-l}
-use Rattle.sets.proofs.MemberLaws.{lowest-is, lowest-none}
-use Rattle.sets.proofs.SetLaws.{has-none}
+use Rattle.sets.proofs.MemberLaws.{lowest-is, lowest-none, Lowest, found, nowhere, lowest-cases}
+use Rattle.sets.proofs.SetLaws.{has-none, no-members}
 use Rattle.graphs.specs.Graph.{Graph, live, vertices}
 use Rattle.graphs.specs.Held.{view, Held}
 use Rattle.graphs.specs.declared.Node.{Node}
 use Rattle.graphs.proofs.GraphLaws.{live-of, of-live}
-use Rattle.graphs.proofs.LoopLaws.{count-narrow}
 use Rattle.graphs.proofs.HeldLaws.{held-vertices}
+use Rattle.graphs.proofs.LoopLaws.{count-narrow}
 use Rattle.cliques.specs.Clique.{isIn, clique, IsClique}
-use Rattle.cliques.specs.Growth.{IsSetOf, Reaches}
+use Rattle.cliques.specs.Growth.{IsSetOf, Within, Reaches}
+use Rattle.cliques.proofs.ListLaws.{in-of}
 use Rattle.cliques.proofs.CliqueLaws.{clique-is}
 use Rattle.cliques.proofs.WordLaws.{size-length}
 use Rattle.mycielski.specs.Rounds.{Part, whole, offers, ofW, extend, full, onward, rounds, limit, mycielskian}
@@ -53,14 +54,14 @@ module _ (h : Node) (k : Held h) where
 
   -- ---- the climb
 
-  pub record Climb (p : Sub) (b : ℕ) : Type 0 where
-    pub fine : Fine n g (k .good) (partOf p) b
-    pub goal : (m : ℕ) → n < b + m → rounds n g m (partOf p) b ≡ mycielskian n g
+  pub record Climb (H : Part) (b : ℕ) : Type 0 where
+    pub fine : Fine n g (k .good) H b
+    pub goal : (m : ℕ) → n < b + m → rounds n g m H b ≡ mycielskian n g
 
-  pub climb-start : (c : ℕ) (p : Sub) → IsSetOf (clique n g) c → partOf p ≡ whole (has c) → Climb p (size 64 c)
+  pub climb-start : (c : ℕ) → IsSetOf (clique n g) c → Climb (whole (has c)) (size 64 c)
   unfolding mycielskian
-  climb-start c p q e =
-      subst (λ (b : ℕ). Climb p b) (sym (size-length n g (clique n g) c (k .few) own q))
+  climb-start c q =
+      subst (λ (b : ℕ). Climb (whole (has c)) b) (sym (size-length n g (clique n g) c (k .few) own q))
       (record {
         fine = subst (λ H. Fine n g (k .good) H (length (clique n g))) (sym is) start;
         goal = λ m b. ap (λ (H : Part). rounds n g m H (length (clique n g))) is
@@ -73,57 +74,77 @@ module _ (h : Node) (k : Held h) where
       start : Fine n g (k .good) (whole (λ x. isIn x (clique n g))) (length (clique n g))
       start = whole-fine n g (k .good) (clique n g) own
 
-      is : partOf p ≡ whole (λ x. isIn x (clique n g))
-      is = e ∙ ap whole (fun-ext q)
+      is : whole (has c) ≡ whole (λ x. isIn x (clique n g))
+      is = ap whole (fun-ext q)
 
-  module _ (p : Sub) (b : ℕ) (i : Climb p b) where
-    pub climb-inside : Inside h p
-    climb-inside = record {
-      verts = λ x t. subst T (sym (k .lives x)) (of-live n g x (i .fine .lives x t));
-      ends = λ x y t. subst T (sym (k .lives y)) (of-live n g y (i .fine .lives y (i .fine .within x y t .1)));
-    }
+  pub clique-live : (c : ℕ) → IsSetOf (clique n g) c → Within c (h .live)
+  clique-live c q x t = subst T (sym (k .lives x)) (of-live n g x (clique-is n g (k .good) .lives x (in-of x (clique n g) (subst T (q x) t))))
+
+  pub climb-inside : (p : Sub) (b : ℕ) → Climb (partOf p) b → Inside (h .live) p
+  climb-inside p b i = record {
+    verts = λ x t. subst T (sym (k .lives x)) (of-live n g x (i .fine .lives x t));
+    ends = λ x y t. subst T (sym (k .lives y)) (of-live n g y (i .fine .lives y (i .fine .within x y t .1)));
+  }
+
+  module _ (set : ℕ) (edge : ℕ → ℕ → Bool) (b : ℕ) (i : Climb (record { vert = λ x. has set x; edge = edge }) b) where
+    abbrev H : Part
+    H = record { vert = λ x. has set x; edge = edge }
 
     -- the rounds that are left, at a limit that is great enough
-    more : onward (full n g (partOf p)) (lowest (ofW n g (partOf p)) n) b (λ w. rounds n g n (extend n g (partOf p) w) (suc b)) ≡ mycielskian n g
+    more : onward (full n g H) (lowest (ofW n g H) n) b (λ w. rounds n g n (extend n g H w) (suc b)) ≡ mycielskian n g
     more = i .goal (suc n) (omega arith)
 
-    set-size : size 64 (p .set) ≡ count (has (p .set)) (upto n)
-    set-size = size-within (p .set) (λ x t. i .fine .lives x t .below)
+    set-size : size 64 set ≡ count (has set) (upto n)
+    set-size = size-within set (λ x t. i .fine .lives x t .below)
 
     pub climb-le : b ≤ mycielskian n g
-    climb-le = le-trans (rounds-le n g (k .good) (suc n) (partOf p) b) (le-of-eq more)
+    climb-le = le-trans (rounds-le n g (k .good) (suc n) H b) (le-of-eq more)
 
     -- H is full
-    pub climb-full : size 64 (h .live) ≤ size 64 (p .set) → b ≡ mycielskian n g
+    pub climb-full : size 64 (h .live) ≤ size 64 set → b ≡ mycielskian n g
     climb-full l =
-        sym (ap (λ (t : Bool). onward t (lowest (ofW n g (partOf p)) n) b (λ w. rounds n g n (extend n g (partOf p) w) (suc b)))
-        (le-leb (length (vertices n g)) (count (has (p .set)) (upto n)) (omega (arith, held-vertices h k, set-size)))) ∙ more
+        sym (ap (λ (t : Bool). onward t (lowest (ofW n g H) n) b (λ w. rounds n g n (extend n g H w) (suc b)))
+        (le-leb (length (vertices n g)) (count (has set) (upto n)) (omega (arith, held-vertices h k, set-size)))) ∙ more
 
-    module _ (l : size 64 (p .set) < size 64 (h .live)) (ws : ℕ) (q : (x : ℕ) → has ws x ≡ ofW n g (partOf p) x) where
-      open-full : full n g (partOf p) ≡ false
-      open-full = lt-leb (length (vertices n g)) (count (has (p .set)) (upto n)) (omega (arith, held-vertices h k, set-size))
+    module _ (l : size 64 set < size 64 (h .live)) (ws : ℕ) (q : (x : ℕ) → has ws x ≡ ofW n g H x) where
+      open-full : full n g H ≡ false
+      open-full = lt-leb (length (vertices n g)) (count (has set) (upto n)) (omega (arith, held-vertices h k, set-size))
 
       -- W is empty
       pub climb-none : ws ≡ 0 → b ≡ mycielskian n g
       climb-none z =
-          sym (ap (λ (t : Bool). onward t (lowest (ofW n g (partOf p)) n) b (λ w. rounds n g n (extend n g (partOf p) w) (suc b))) open-full
-          ∙ ap (λ (o : Option ℕ). onward false o b (λ w. rounds n g n (extend n g (partOf p) w) (suc b)))
-          (lowest-none (ofW n g (partOf p)) n (λ j c t. subst T (has-none j) (subst (λ s. T (has s j)) z (subst T (sym (q j)) t))))) ∙ more
+          sym (ap (λ (t : Bool). onward t (lowest (ofW n g H) n) b (λ w. rounds n g n (extend n g H w) (suc b))) open-full
+          ∙ ap (λ (o : Option ℕ). onward false o b (λ w. rounds n g n (extend n g H w) (suc b)))
+          (lowest-none (ofW n g H) n (λ j c t. subst T (has-none j) (subst (λ s. T (has s j)) z (subst T (sym (q j)) t))))) ∙ more
+
+      -- W is not: whatever is chosen of it, there is one round more
+      pub climb-more : (ws ≡ 0 → ⊥) → suc b ≤ mycielskian n g
+      climb-more z = le-trans (go (lowest (ofW n g H) n) (lowest-cases (ofW n g H) n)) (le-of-eq (sym (ap (λ (t : Bool). onward t (lowest (ofW n g H) n) b next) open-full) ∙ more))
+        where
+          next : ℕ → ℕ
+          next w = rounds n g n (extend n g H w) (suc b)
+
+          below : (x : ℕ) → T (ofW n g H x) → x < n
+          below x t = live-of n g x (and-l (live n g x) (all n (λ v. not (has set v) || any n (offers n g H x v))) t) .below
+
+          go : (o : Option ℕ) → Lowest (ofW n g H) n o → suc b ≤ onward false o b next
+          go o (found w a) = rounds-le n g (k .good) n (extend n g H w) (suc b)
+          go o (nowhere f) = absurd (z (no-members ws (λ x t. f x (below x (subst T (q x) t)) (subst T (q x) t))))
 
       -- a round
       module _ (w : ℕ) (v : IsLowest 64 ws w) where
-        pub climb-w : T (ofW n g (partOf p) w)
+        pub climb-w : T (ofW n g H w)
         climb-w = subst T (q w) (v .member)
 
-        lowest-w : lowest (ofW n g (partOf p)) n ≡ some w
-        lowest-w = lowest-is (ofW n g (partOf p)) n w (live-of n g w (and-l (live n g w) (all n (λ v. not (has (p .set) v) || any n (offers n g (partOf p) w v))) climb-w) .below) climb-w (λ j c t. v .least j c (subst T (sym (q j)) t))
+        lowest-w : lowest (ofW n g H) n ≡ some w
+        lowest-w = lowest-is (ofW n g H) n w (live-of n g w (and-l (live n g w) (all n (λ v. not (has set v) || any n (offers n g H w v))) climb-w) .below) climb-w (λ j c t. v .least j c (subst T (sym (q j)) t))
 
-        pub climb-next : (p′ : Sub) → partOf p′ ≡ extend n g (partOf p) w → Climb p′ (suc b)
-        climb-next p′ e = record {
-          fine = subst (λ H. Fine n g (k .good) H (suc b)) (sym e) (fine-round n g (k .good) (partOf p) b (i .fine) w climb-w);
+        pub climb-next : (H′ : Part) → H′ ≡ extend n g H w → Climb H′ (suc b)
+        climb-next H′ e = record {
+          fine = subst (λ H. Fine n g (k .good) H (suc b)) (sym e) (fine-round n g (k .good) H b (i .fine) w climb-w);
           goal = λ m c.
               ap (λ (H : Part). rounds n g m H (suc b)) e
-              ∙ sym (ap (λ (t : Bool). onward t (lowest (ofW n g (partOf p)) n) b (λ w. rounds n g m (extend n g (partOf p) w) (suc b))) open-full
-              ∙ ap (λ (o : Option ℕ). onward false o b (λ w. rounds n g m (extend n g (partOf p) w) (suc b))) lowest-w)
+              ∙ sym (ap (λ (t : Bool). onward t (lowest (ofW n g H) n) b (λ w. rounds n g m (extend n g H w) (suc b))) open-full
+              ∙ ap (λ (o : Option ℕ). onward false o b (λ w. rounds n g m (extend n g H w) (suc b))) lowest-w)
               ∙ i .goal (suc m) (omega arith);
         }

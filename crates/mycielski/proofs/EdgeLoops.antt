@@ -111,8 +111,9 @@ tying-again u ys r₀ r left v s left′ i w q o = record {
     here false true false = refl
     here false false c = refl
 
-pub tying-end : (near : List ℕ) (u ys s : ℕ) (r : List ℕ) → u < length near → IsJoin (getD near u zero) ys s → Tying u ys (set near u s) r 0 → Ties near u ys r
-tying-end near u ys s r b j i x y =
+laid : (near : List ℕ) (u ys s : ℕ) (r : List ℕ) → u < length near → IsJoin (getD near u zero) ys s → Tying u ys (set near u s) r 0
+    → (x y : ℕ) → has (getD r x zero) y ≡ (has (getD near x zero) y || (eqb x u && has ys y || eqb y u && has ys x))
+laid near u ys s r b j i x y =
     i .is x y
     ∙ ap₂ (λ (a c : Bool). a || (eqb y u && c))
     (getD-set near u s x b (λ t. has t y ≡ (has (getD near x zero) y || (eqb x u && has ys y)))
@@ -124,3 +125,7 @@ tying-end near u ys s r b j i x y =
     assoc : (a b c : Bool) → (a || (b || c)) ≡ ((a || b) || c)
     assoc true b c = refl
     assoc false b c = refl
+
+pub tying-end : (near : List ℕ) (u ys s : ℕ) (r : List ℕ) → length near ≡ 64 → u < 64 → IsJoin (getD near u zero) ys s → Tying u ys (set near u s) r 0
+    → Ties near u ys r
+tying-end near u ys s r l b j i = record { long = i .wide ∙ sym l; is = laid near u ys s r (omega arith) j i }

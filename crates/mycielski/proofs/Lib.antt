@@ -4,5 +4,7 @@ pub mod RoundLaws
 mod DoneLaws
 mod SetLoops
 mod EdgeLoops
+mod WitnessLoops
+mod FirstLoops
 mod RoundLoops
 mod ClimbLaws

@@ -1,13 +1,14 @@
--- W and a round in words, gathered over the vertices of H, lowest first. Assumes nothing.
+-- A round in words, gathered over the vertices of H, lowest first. Assumes nothing.
 use mathlib.Core.Path.{_≡_, refl, sym, ap, ap₂, _∙_, fun-ext, subst}
 use mathlib.Core.Bool.{Bool, true, false, not, _&&_, _||_}
+use mathlib.Core.List.{List}
 use mathlib.Core.Option.{Option, Option·getD}
 use Prim.Native.Nat.{ℕ, zero, _<_}
 use lib.Dec.{T, eqb}
-use lib.ListN.{getD}
+use lib.ListN.{length, getD}
 use Rattle.sets.specs.Lists.{all, any}
 use Rattle.sets.specs.Set.{has, IsWith, IsWithout, IsMeet, IsLowest}
-use Rattle.sets.proofs.TestLaws.{and-l, and-r, and-t, and-true, T→false, T-ext, all-get, all-make, any-get}
+use Rattle.sets.proofs.TestLaws.{and-l, and-r, and-t, T-ext, all-get, any-get}
 use Rattle.sets.proofs.MemberLaws.{lowest-is}
 use Rattle.sets.proofs.SetLaws.{has-none}
 use Rattle.graphs.specs.Graph.{Graph, live}
@@ -17,13 +18,14 @@ use Rattle.graphs.proofs.LoopLaws.{or-false}
 use Rattle.cliques.specs.Growth.{Within}
 use Rattle.cliques.proofs.WordLaws.{eqb-turn}
 use Rattle.mycielski.specs.Rounds.{Part, nearAll, ofS, offers, ofW, chosen, tied, extend}
-use Rattle.mycielski.specs.Words.{partOf, Inside, reachable, Tied}
+use Rattle.mycielski.specs.Words.{partOf, Inside, Ties}
 use Rattle.mycielski.specs.declared.Sub.{Sub}
-use Rattle.mycielski.proofs.DoneLaws.{imp-get, imp-make, done, done-none, done-all, within-again, done-more, all-more, any-more, all-none, any-none}
+use Rattle.mycielski.proofs.DoneLaws.{imp-get, done, done-none, done-all, within-again, done-more, any-more, any-none}
 use Rattle.mycielski.proofs.SetLoops.{live-below}
 use Rattle.mycielski.proofs.EdgeLoops.{part-ext}
+use Rattle.mycielski.proofs.WitnessLoops.{serving-live}
 
-module _ (h : Node) (k : Held h) (p : Sub) (ins : Inside h p) where
+module _ (h : Node) (k : Held h) (p : Sub) (ins : Inside (h .live) p) where
   abbrev g : Graph
   g = view h
 
@@ -32,68 +34,6 @@ module _ (h : Node) (k : Held h) (p : Sub) (ins : Inside h p) where
 
   abbrev H : Part
   H = partOf p
-
-  -- what S(v) reaches, where s is S(v)
-  pub reach-is : (v s w : ℕ) → ((x : ℕ) → has s x ≡ nearAll n g (has (getD (p .near) v zero)) x) → reachable n g s w ≡ any n (offers n g H w v)
-  reach-is v s w e = ap (λ (q : ℕ → Bool). any n (λ x. q x && g .adj w x)) (fun-ext e)
-
-  pub serving-live : (v s : ℕ) → ((x : ℕ) → has s x ≡ nearAll n g (has (getD (p .near) v zero)) x) → Within s (h .live)
-  serving-live v s e x t = subst T (sym (k .lives x)) (and-l (live n g x) (all n (λ y. not (has (getD (p .near) v zero) y) || g .adj x y)) (subst T (e x) t))
-
-  -- ---- W
-
-  pub record Witness (ws left : ℕ) : Type 0 where
-    pub within : Within left (p .set)
-    pub is : (x : ℕ) → has ws x ≡ (live n g x && all n (λ v. not (done (p .set) left v) || any n (offers n g H x v)))
-
-  pub witness-start : Witness (h .live) (p .set)
-  witness-start = record {
-    within = λ x t. t;
-    is = λ x.
-        k .lives x
-        ∙ sym (ap (λ (b : Bool). live n g x && b) (all-none n (λ v. done (p .set) (p .set) v) (λ v. any n (offers n g H x v)) (done-none (p .set))) ∙ and-true (live n g x));
-  }
-
-  pub witness-end : (ws : ℕ) → Witness ws 0 → (x : ℕ) → has ws x ≡ ofW n g H x
-  witness-end ws i x = i .is x ∙ ap (λ (q : ℕ → Bool). live n g x && all n (λ v. not (q v) || any n (offers n g H x v))) (done-all (p .set))
-
-  -- where none is left of W there is none
-  pub witness-none : (left : ℕ) → Witness 0 left → (x : ℕ) → has 0 x ≡ ofW n g H x
-  witness-none left i x = has-none x ∙ sym (T→false (ofW n g H x) none)
-    where
-      none : ¬ T (ofW n g H x)
-      none t = subst T (has-none x) (subst T (sym (i .is x)) (and-t (live n g x) (all n (λ v. not (done (p .set) left v) || any n (offers n g H x v)))
-          (and-l (live n g x) (all n (λ v. not (has (p .set) v) || any n (offers n g H x v))) t)
-          (all-make n (λ v. not (done (p .set) left v) || any n (offers n g H x v))
-          (λ v l. imp-make (done (p .set) left v) (any n (offers n g H x v))
-          (λ d. imp-get (has (p .set) v) (any n (offers n g H x v))
-          (all-get n (λ v. not (has (p .set) v) || any n (offers n g H x v)) (and-r (live n g x) (all n (λ v. not (has (p .set) v) || any n (offers n g H x v))) t) v l)
-          (and-l (has (p .set) v) (not (has left v)) d))))))
-
-  -- one vertex of H more
-  pub witness-more : (ws left v s r ws′ left′ : ℕ) → Witness ws left → IsLowest 64 left v
-      → ((x : ℕ) → has s x ≡ nearAll n g (has (getD (p .near) v zero)) x) → ((w : ℕ) → (has (h .live) w && has r w) ≡ reachable n g s w)
-      → IsMeet ws r ws′ → IsWithout left v left′ → Witness ws′ left′
-  witness-more ws left v s r ws′ left′ i w e f m o = record {
-    within = within-again (p .set) left v left′ (i .within) w o;
-    is = λ x.
-        m x ∙ ap (λ (b : Bool). b && has r x) (i .is x ∙ ap (λ (b : Bool). b && old x) (sym (k .lives x)))
-        ∙ shuffle (has (h .live) x) (old x) (has r x)
-        ∙ ap₂ (λ (a b : Bool). a && (old x && b)) (k .lives x) (f x ∙ reach-is v s x e)
-        ∙ ap (λ (b : Bool). live n g x && b)
-        (sym (all-more n (λ v. done (p .set) left v) (λ v. done (p .set) left′ v) (λ v. any n (offers n g H x v)) v
-        (live-below h k v (ins .verts v (i .within v (w .member)))) (done-more (p .set) left v left′ (i .within) w o)));
-  }
-    where
-      old : ℕ → Bool
-      old x = all n (λ v. not (done (p .set) left v) || any n (offers n g H x v))
-
-      shuffle : (a b c : Bool) → ((a && b) && c) ≡ (a && (b && (a && c)))
-      shuffle true true c = refl
-      shuffle true false c = refl
-      shuffle false b c = refl
-
-  -- ---- a round with w of W
 
   module _ (w : ℕ) (ok : T (ofW n g H w)) where
     live-w : T (has (h .live) w)
@@ -110,7 +50,7 @@ module _ (h : Node) (k : Held h) (p : Sub) (ins : Inside h p) where
               let a = and-l (has s x) (has (getD (h .rows) w zero) x) u in
               and-t (ofS n g H v x) (g .adj w x) (subst T (e x) a)
               (and-t (has (h .live) w) (has (h .live) x && has (getD (h .rows) w zero) x) live-w
-              (and-t (has (h .live) x) (has (getD (h .rows) w zero) x) (serving-live v s e x a) (and-r (has s x) (has (getD (h .rows) w zero) x) u)))
+              (and-t (has (h .live) x) (has (getD (h .rows) w zero) x) (serving-live h k (p .set) (H .edge) (ins .verts) v s e x a) (and-r (has s x) (has (getD (h .rows) w zero) x) u)))
 
           back : T (offers n g H w v x) → T (has m x)
           back t =
@@ -131,17 +71,19 @@ module _ (h : Node) (k : Held h) (p : Sub) (ins : Inside h p) where
       pub chosen-is : (u : ℕ) → IsLowest 64 m u → chosen n g H w v ≡ u
       chosen-is u l =
           ap (λ (o : Option ℕ). Option·getD o zero)
-          (lowest-is (offers n g H w v) n u (live-below h k u (serving-live v s e u (and-l (has s u) (has (getD (h .rows) w zero) u) (subst T (q u) (l .member)))))
+          (lowest-is (offers n g H w v) n u (live-below h k u (serving-live h k (p .set) (H .edge) (ins .verts) v s e u (and-l (has s u) (has (getD (h .rows) w zero) u) (subst T (q u) (l .member)))))
           (subst T (offers-is u) (l .member)) (λ j b t. l .least j b (subst T (sym (offers-is j)) t)))
 
     pub record Extending (next : Sub) (left : ℕ) : Type 0 where
+      pub wide : length (next .near) ≡ 64
       pub within : Within left (p .set)
       pub verts : (x : ℕ) → has (next .set) x ≡ (has (p .set) x || (eqb x w || any n (λ v. done (p .set) left v && eqb x (chosen n g H w v))))
       pub edges : (x y : ℕ)
           → has (getD (next .near) x zero) y ≡ (has (getD (p .near) x zero) y || any n (λ v. done (p .set) left v && (tied n g H w v x y || tied n g H w v y x)))
 
-    pub extending-start : (s : ℕ) → IsWith (p .set) w s → Extending (record { set = s; near = p .near }) (p .set)
-    extending-start s q = record {
+    pub extending-start : (s : ℕ) → length (p .near) ≡ 64 → IsWith (p .set) w s → Extending (record { set = s; near = p .near }) (p .set)
+    extending-start s l q = record {
+      wide = l;
       within = λ x t. t;
       verts = λ x.
           q x ∙ ap (λ (b : Bool). has (p .set) x || b) (eqb-turn w x ∙ sym (or-false (eqb x w)) ∙ ap (λ (b : Bool). eqb x w || b) (sym (any-none n (λ v. done (p .set) (p .set) v) (λ v. eqb x (chosen n g H w v)) (done-none (p .set)))));
@@ -157,17 +99,19 @@ module _ (h : Node) (k : Held h) (p : Sub) (ins : Inside h p) where
         (λ x y. i .edges x y ∙ ap (λ (q : ℕ → Bool). has (getD (p .near) x zero) y || any n (λ v. q v && (tied n g H w v x y || tied n g H w v y x))) (done-all (p .set)))
 
     -- one vertex of H more
-    pub extending-again : (next : Sub) (left v s m u ys : ℕ) (next′ : Sub) (left′ : ℕ) → Extending next left → IsLowest 64 left v
+    pub extending-again : (next : Sub) (left v s m u ys set′ : ℕ) (near′ : List ℕ) (left′ : ℕ) → Extending next left → IsLowest 64 left v
         → ((x : ℕ) → has s x ≡ nearAll n g (has (getD (p .near) v zero)) x) → IsMeet s (getD (h .rows) w zero) m → IsLowest 64 m u
-        → IsWith (getD (p .near) v zero) w ys → Tied next u ys next′ → IsWithout left v left′ → Extending next′ left′
-    extending-again next left v s m u ys next′ left′ i l e q lu wy t o = record {
+        → IsWith (getD (p .near) v zero) w ys → IsWith (next .set) u set′ → Ties (next .near) u ys near′ → IsWithout left v left′
+        → Extending (record { set = set′; near = near′ }) left′
+    extending-again next left v s m u ys set′ near′ left′ i l e q lu wy a t o = record {
+      wide = t .long ∙ i .wide;
       within = within-again (p .set) left v left′ (i .within) l o;
       verts = λ x.
-          t .vertex x ∙ ap₂ (λ (a b : Bool). a || b) (i .verts x) (eqb-turn u x ∙ ap (eqb x) (sym is))
+          a x ∙ ap₂ (λ (a b : Bool). a || b) (i .verts x) (eqb-turn u x ∙ ap (eqb x) (sym is))
           ∙ three (has (p .set) x) (eqb x w) (any n (λ z. done (p .set) left z && eqb x (chosen n g H w z))) (eqb x (chosen n g H w v))
           ∙ ap (λ (b : Bool). has (p .set) x || (eqb x w || b)) (sym (any-more n (λ z. done (p .set) left z) (λ z. done (p .set) left′ z) (λ z. eqb x (chosen n g H w z)) v below more));
       edges = λ x y.
-          t .edges x y
+          t .is x y
           ∙ ap₂ (λ (a b : Bool). a || b) (i .edges x y) (ap₂ (λ (a b : Bool). a || b) (tie x y) (tie y x))
           ∙ two (has (getD (p .near) x zero) y) (any n (λ z. done (p .set) left z && (tied n g H w z x y || tied n g H w z y x))) (tied n g H w v x y || tied n g H w v y x)
           ∙ ap (λ (b : Bool). has (getD (p .near) x zero) y || b)

@@ -1,42 +1,54 @@
 -- H in words.
 --
 --   partOf p    : the part that the words p hold
---   Inside h p  : p's vertices, and the ends of its edges, are live vertices of the node h
+--   Inside live p : p's vertices, and the ends of its edges, are among the live vertices
 --   reachable n g s w : w is adjacent to some member of s
---   Ties near u ys r  : r has the edges of near, and one between u and each member of ys, both ways
---   Tied p u ys r     : r is p with u and with these edges
+--   Ties near u ys r  : r has as many rows, the edges of near, and one between u and each member of ys, both ways
+--   misses rows c x   : how many members of c do not have x in their row
+--   Lacks live rows c m : m has the live vertices that lack a member of c, and those that lack two
+--   Outside live c once r : r has the live vertices, but c's members where every live vertex is in once
 --   Climbs b e r : r is the bound b, or a bound on the way to it that has reached e
 --
 -- Assumes nothing.
 use mathlib.Core.Path.{_≡_}
-use mathlib.Core.Bool.{Bool, _&&_, _||_}
+use mathlib.Core.Logic.{_⊎_}
+use mathlib.Core.Bool.{Bool, not, _&&_, _||_}
 use mathlib.Core.List.{List}
 use Prim.Native.Nat.{ℕ, zero, _≤_, _<_}
-use lib.Dec.{T, eqb}
-use lib.ListN.{getD}
-use Rattle.sets.specs.Lists.{any}
-use Rattle.sets.specs.Set.{has, IsWith}
+use lib.Dec.{T, eqb, leb}
+use lib.ListN.{length, getD}
+use Rattle.sets.specs.Lists.{any, count, upto}
+use Rattle.sets.specs.Set.{has}
 use Rattle.graphs.specs.Graph.{Graph}
-use Rattle.graphs.specs.declared.Node.{Node}
+use Rattle.cliques.specs.Growth.{Within}
 use Rattle.mycielski.specs.Rounds.{Part}
 use Rattle.mycielski.specs.declared.Sub.{Sub}
+use Rattle.mycielski.specs.declared.Lack.{Lack}
 
 abbrev pub partOf : Sub → Part
 partOf p = record { vert = λ x. has (p .set) x; edge = λ x y. has (getD (p .near) x zero) y }
 
-pub record Inside (h : Node) (p : Sub) : Type 0 where
-  pub verts : (x : ℕ) → T (has (p .set) x) → T (has (h .live) x)
-  pub ends : (x y : ℕ) → T (has (getD (p .near) x zero) y) → T (has (h .live) y)
+pub record Inside (live : ℕ) (p : Sub) : Type 0 where
+  pub verts : Within (p .set) live
+  pub ends : (x : ℕ) → Within (getD (p .near) x zero) live
 
 abbrev pub reachable : ℕ → Graph → ℕ → ℕ → Bool
 reachable n g s w = any n (λ x. has s x && g .adj w x)
 
-abbrev pub Ties : List ℕ → ℕ → ℕ → List ℕ → Type 0
-Ties near u ys r = (x y : ℕ) → has (getD r x zero) y ≡ (has (getD near x zero) y || (eqb x u && has ys y || eqb y u && has ys x))
+pub record Ties (near : List ℕ) (u ys : ℕ) (r : List ℕ) : Type 0 where
+  pub long : length r ≡ length near
+  pub is : (x y : ℕ) → has (getD r x zero) y ≡ (has (getD near x zero) y || (eqb x u && has ys y || eqb y u && has ys x))
 
-pub record Tied (p : Sub) (u ys : ℕ) (r : Sub) : Type 0 where
-  pub vertex : IsWith (p .set) u (r .set)
-  pub edges : Ties (p .near) u ys (r .near)
+abbrev pub misses : List ℕ → ℕ → ℕ → ℕ
+misses rows c x = count (λ v. has c v && not (has (getD rows v zero) x)) (upto 64)
+
+pub record Lacks (live : ℕ) (rows : List ℕ) (c : ℕ) (m : Lack) : Type 0 where
+  pub once : (x : ℕ) → has (m .once) x ≡ (has live x && leb 1 (misses rows c x))
+  pub twice : (x : ℕ) → has (m .twice) x ≡ (has live x && leb 2 (misses rows c x))
+
+pub record Outside (live c once r : ℕ) : Type 0 where
+  pub within : Within r live
+  pub all : (x : ℕ) → T (has live x) → T (has r x) ⊎ (T (has c x) × (once ≡ live))
 
 pub record Climbs (b e r : ℕ) : Type 0 where
   pub most : r ≤ b

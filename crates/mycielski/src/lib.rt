@@ -1,7 +1,8 @@
 // The Mycielskian bound of a node, in words: H's vertices and edges, S(v) and W are meets and joins of rows.
-use cliques::clique_up_to;
+use cliques::clique_among;
 use graphs::Node;
 use sets::join;
+use sets::less;
 use sets::lowest;
 use sets::meet;
 use sets::size;
@@ -9,19 +10,26 @@ use sets::with;
 use sets::without;
 ghost use mathlib.Core.Path.{_≡_};
 ghost use mathlib.Core.Bool.{_&&_};
-ghost use Prim.Native.Nat.{ℕ, _<_, _≤_};
+ghost use Prim.Native.Nat.{ℕ, _<_};
 ghost use lib.Dec.{T};
-ghost use lib.ListN.{getD};
+ghost use lib.ListN.{length};
 ghost use Rattle.sets.specs.Set.{has};
-ghost use Rattle.graphs.specs.Held.{view, Held};
-ghost use Rattle.cliques.specs.Growth.{Within};
+ghost use Rattle.graphs.specs.Held.{view, Held, Holds, Each};
+ghost use Rattle.cliques.specs.Clique.{clique};
+ghost use Rattle.cliques.specs.Growth.{IsSetOf, Within};
 ghost use Rattle.mycielski.specs.Rounds.{whole as wholeOf, nearAll, ofW, extend, mycielskian};
-ghost use Rattle.mycielski.specs.Words.{partOf, Inside, reachable, Tied, Climbs};
+ghost use Rattle.mycielski.specs.Words.{partOf, Inside, reachable, Ties, Lacks, Outside, Climbs};
 
 // H: its vertices, and for each the vertices that an edge of H joins it to.
 pub struct Sub {
     pub set: u64,
     pub near: [u64; 64],
+}
+
+// The live vertices that are not adjacent to some member of a set, and those that are not adjacent to two.
+pub struct Lack {
+    pub once: u64,
+    pub twice: u64,
 }
 
 // The clique c, with every edge between two of its members.
@@ -39,13 +47,11 @@ pub fn whole(c: u64) -> Sub
 }
 
 // S(v), where `near` has the H-neighbours of v: the live vertices that are adjacent to all of them.
-pub fn serving(h: Node, near: u64) -> u64
-    requires { ⌜ Held h ⌝ }
-    requires { ⌜ Within near (h .live) ⌝ }
-    ensures { λ r. ⌜ ((x : ℕ) → has r x ≡ nearAll (h .n) (view h) (has near) x) ⌝ }
+pub fn serving(live: u64, rows: &[u64; 64], near: u64) -> u64
+    requires { ⌜ Within near live ⌝ }
+    ensures { λ r. ⌜ Each live (now (rows .entry)) (λ h. (x : ℕ) → has r x ≡ nearAll (h .n) (view h) (has near) x) ⌝ }
 {
-    let rows = h.rows;
-    let mut s = h.live;
+    let mut s = live;
     let mut left = near;
     while left != 0 {
         let y = lowest(left);
@@ -56,12 +62,9 @@ pub fn serving(h: Node, near: u64) -> u64
 }
 
 // The vertices that are adjacent to some member of s; bits of others mean nothing.
-pub fn reached(h: Node, s: u64) -> u64
-    requires { ⌜ Held h ⌝ }
-    requires { ⌜ Within s (h .live) ⌝ }
-    ensures { λ r. ⌜ ((w : ℕ) → (has (h .live) w && has r w) ≡ reachable (h .n) (view h) s w) ⌝ }
+pub fn reached(rows: &[u64; 64], s: u64) -> u64
+    ensures { λ r. ⌜ ((l : ℕ) → Within s l → Each l (now (rows .entry)) (λ h. (w : ℕ) → (has l w && has r w) ≡ reachable (h .n) (view h) s w)) ⌝ }
 {
-    let rows = h.rows;
     let mut r: u64 = 0;
     let mut left = s;
     while left != 0 {
@@ -72,47 +75,85 @@ pub fn reached(h: Node, s: u64) -> u64
     r
 }
 
-// The vertices that an edge of p joins v to.
-pub fn neighbours(p: Sub, v: usize) -> u64
-    requires { ⌜ v < 64 ⌝ }
-    ensures { λ r. ⌜ r ≡ getD (p .near) v 0 ⌝ }
-{
-    let edges = p.near;
-    edges[v]
-}
-
-// p with u, and with edges between u and each of ys.
-pub fn tied(p: Sub, u: usize, ys: u64) -> Sub
+// Edges between u and each of ys.
+pub fn tie(near: &mut [u64; 64], u: usize, ys: u64)
+    requires { ⌜ length (now near) ≡ 64 ⌝ }
     requires { ⌜ u < 64 ⌝ }
-    ensures { λ r. ⌜ Tied p u ys r ⌝ }
+    ensures { λ r. ⌜ Ties (now (near .entry)) u ys (now (near .exit)) ⌝ }
 {
-    let mut near = p.near;
-    near[u] = join(near[u], ys);
+    let row = join(near[u], ys);
+    near[u] = row;
     let mut left = ys;
     while left != 0 {
         let y = lowest(left);
-        near[y] = with(near[y], u);
+        let row = with(near[y], u);
+        near[y] = row;
         left = without(left, y);
-    }
-    Sub {
-        set: with(p.set, u),
-        near: near,
     }
 }
 
-// W: the live vertices that are adjacent, for each v in H, to some member of S(v).
-pub fn witnesses(h: Node, p: Sub) -> u64
-    requires { ⌜ Held h ⌝ }
-    requires { ⌜ Inside h p ⌝ }
-    ensures { λ r. ⌜ ((x : ℕ) → has r x ≡ ofW (h .n) (view h) (partOf p) x) ⌝ }
+// Which live vertices lack one member of c, and which two.
+pub fn lacking(live: u64, rows: &[u64; 64], c: u64) -> Lack
+    ensures { λ r. ⌜ Lacks live (now (rows .entry)) c r ⌝ }
 {
-    let near = p.near;
-    let mut ws = h.live;
-    let mut left = p.set;
+    let mut once: u64 = 0;
+    let mut twice: u64 = 0;
+    let mut left = c;
     while left != 0 {
         let v = lowest(left);
-        let s = serving(h, near[v]);
-        ws = meet(ws, reached(h, s));
+        let away = less(live, rows[v]);
+        twice = join(twice, meet(once, away));
+        once = join(once, away);
+        left = without(left, v);
+    }
+    Lack {
+        once: once,
+        twice: twice,
+    }
+}
+
+// Where W of the first round is looked for: no member of c is in it, if every vertex lacks some member.
+fn outside(live: u64, c: u64, once: u64) -> u64
+    ensures { λ r. ⌜ Outside live c once r ⌝ }
+{
+    if once == live {
+        return less(live, c);
+    }
+    live
+}
+
+// W of the first round, where H is c: S(v) has the vertices that lack no member of c, or v alone.
+pub fn first_witnesses(live: u64, rows: &[u64; 64], c: u64) -> u64
+    requires { ⌜ Within c live ⌝ }
+    ensures { λ r. ⌜ Each live (now (rows .entry)) (λ h. (x : ℕ) → has r x ≡ ofW (h .n) (view h) (wholeOf (has c)) x) ⌝ }
+{
+    let lack = lacking(live, rows, c);
+    let few = less(live, lack.twice);
+    let mut ws = outside(live, c, lack.once);
+    let mut left = c;
+    while left != 0 {
+        let v = lowest(left);
+        let s = less(few, meet(lack.once, rows[v]));
+        ws = meet(ws, reached(rows, s));
+        if ws == 0 {
+            return 0;
+        }
+        left = without(left, v);
+    }
+    ws
+}
+
+// W: the live vertices that are adjacent, for each v in H, to some member of S(v).
+pub fn witnesses(live: u64, rows: &[u64; 64], set: u64, near: &[u64; 64]) -> u64
+    requires { ⌜ Inside live (record { set = set; near = now near }) ⌝ }
+    ensures { λ r. ⌜ Each live (now (rows .entry)) (λ h. (x : ℕ) → has r x ≡ ofW (h .n) (view h) (partOf (record { set = set; near = now (near .entry) })) x) ⌝ }
+{
+    let mut ws = live;
+    let mut left = set;
+    while left != 0 {
+        let v = lowest(left);
+        let s = serving(live, rows, near[v]);
+        ws = meet(ws, reached(rows, s));
         if ws == 0 {
             return 0;
         }
@@ -123,53 +164,85 @@ pub fn witnesses(h: Node, p: Sub) -> u64
 
 // H after a round with w of W: for each v of the old H the lowest member of S(v) that is adjacent to w comes in, tied to w and to v's old
 // H-neighbours.
-pub fn extended(h: Node, p: Sub, w: usize) -> Sub
-    requires { ⌜ Held h ⌝ }
-    requires { ⌜ Inside h p ⌝ }
+pub fn extended(live: u64, rows: &[u64; 64], p: Sub, w: usize) -> Sub
+    requires { ⌜ Holds live (now rows) ⌝ }
+    requires { ⌜ Inside live p ⌝ }
     requires { ⌜ w < 64 ⌝ }
-    requires { ⌜ T (ofW (h .n) (view h) (partOf p) w) ⌝ }
-    ensures { λ r. ⌜ partOf r ≡ extend (h .n) (view h) (partOf p) w ⌝ }
+    requires { ⌜ Each live (now rows) (λ h. T (ofW (h .n) (view h) (partOf p) w)) ⌝ }
+    ensures { λ r. ⌜ Each live (now (rows .entry)) (λ h. partOf r ≡ extend (h .n) (view h) (partOf p) w) ⌝ }
 {
-    let rows = h.rows;
     let row = rows[w];
-    let edges = p.near;
-    let mut next = Sub {
-        set: with(p.set, w),
-        near: edges,
-    };
+    let old = p.near;
+    let mut set = with(p.set, w);
+    let mut near = old;
     let mut left = p.set;
     while left != 0 {
         let v = lowest(left);
-        let s = serving(h, neighbours(p, v));
+        let s = serving(live, rows, old[v]);
         let u = lowest(meet(s, row));
-        next = tied(next, u, with(neighbours(p, v), w));
+        set = with(set, u);
+        let ys = with(old[v], w);
+        tie(&mut near, u, ys);
         left = without(left, v);
     }
-    next
+    Sub {
+        set: set,
+        near: near,
+    }
 }
 
-// The bound, or a bound on the way to it that is as great as is enough.
-pub fn bound_up_to(h: Node, enough: usize) -> usize
-    requires { ⌜ Held h ⌝ }
-    ensures { λ r. ⌜ Climbs (mycielskian (h .n) (view h)) enough r ⌝ }
+// The bound from the clique c, or a bound on the way to it that is as great as is enough, by rounds on H.
+pub fn climb(live: u64, rows: &[u64; 64], c: u64, enough: usize) -> usize
+    requires { ⌜ Holds live (now rows) ⌝ }
+    requires { ⌜ Each live (now rows) (λ h. IsSetOf (clique (h .n) (view h)) c) ⌝ }
+    ensures { λ r. ⌜ Each live (now (rows .entry)) (λ h. Climbs (mycielskian (h .n) (view h)) enough r) ⌝ }
 {
-    let c = clique_up_to(h, enough);
+    let all = size(live);
     let mut b = size(c);
-    if enough <= b {
-        return b;
-    }
-    let all = size(h.live);
     let mut p = whole(c);
     while b < enough {
         if all <= size(p.set) {
             return b;
         }
-        let ws = witnesses(h, p);
+        let ws = witnesses(live, rows, p.set, &p.near);
         if ws == 0 {
             return b;
         }
-        p = extended(h, p, lowest(ws));
+        if enough <= b + 1 {
+            return b + 1;
+        }
+        p = extended(live, rows, p, lowest(ws));
         b = b + 1;
     }
     b
+}
+
+// The bound, or a bound on the way to it that is as great as is enough. Where the clique and one round tell, H is not made.
+pub fn bound_among(live: u64, rows: &[u64; 64], enough: usize) -> usize
+    requires { ⌜ Holds live (now rows) ⌝ }
+    ensures { λ r. ⌜ Each live (now (rows .entry)) (λ h. Climbs (mycielskian (h .n) (view h)) enough r) ⌝ }
+{
+    let c = clique_among(live, rows, enough);
+    let b = size(c);
+    if enough <= b {
+        return b;
+    }
+    if size(live) <= b {
+        return b;
+    }
+    if first_witnesses(live, rows, c) == 0 {
+        return b;
+    }
+    if enough <= b + 1 {
+        return b + 1;
+    }
+    climb(live, rows, c, enough)
+}
+
+// The same of a node.
+pub fn bound_up_to(h: Node, enough: usize) -> usize
+    requires { ⌜ Held h ⌝ }
+    ensures { λ r. ⌜ Climbs (mycielskian (h .n) (view h)) enough r ⌝ }
+{
+    bound_among(h.live, &h.rows, enough)
 }

@@ -1,7 +1,7 @@
 -- `cliques::opened` meets its contract. Assumes nothing.
 use mathlib.Core.Path.{subst}
-use mathlib.Core.List.{[], _∷_}
-use Rattle.graphs.specs.Held.{view}
+use mathlib.Core.List.{List, [], _∷_}
+use Rattle.graphs.specs.Held.{view, holding}
 use Rattle.cliques.specs.Growth.{Grown}
 use Rattle.cliques.proofs.WordLaws.{grown-alone}
 use Rattle.cliques.proofs.HuntLaws.{left-near, near-lives, opened-is}
@@ -30,22 +30,23 @@ less-requires c κs = search needs
 grow-requires : tie.Need-grow-requires
 grow-requires c κs =
     let a = c .before .before .before .before .before in
-    let m = c .before .before .before in (
-      a .pre .0,
-      (
-        left-near (a .args .t1) (a .pre .0) (a .args .s) (m .meet .result) (c .before .below .result) (c .less .result) (a .pre .1 .1) (m .meet .ensures) (c .before .below .ensures) (c .less .ensures),
-        near-lives (a .args .t1) (a .pre .0) (a .args .s) (m .meet .result) (c .before .below .result) (c .less .result) (a .pre .1 .1) (m .meet .ensures) (c .before .below .ensures) (c .less .ensures),
-      ),
+    let h = holding (a .args .live) (a .args .rows .now) (a .pre .0 .0) in
+    let k = a .pre .0 .1 in
+    let m = c .before .before .before .meet in (
+      (a .args .live, near-lives h k (a .args .s) (m .result) (c .before .below .result) (c .less .result) (a .pre .1 .1) (m .ensures) (c .before .below .ensures) (c .less .ensures), a .pre .0),
+      left-near h k (a .args .s) (m .result) (c .before .below .result) (c .less .result) (a .pre .1 .1) (m .ensures) (c .before .below .ensures) (c .less .ensures),
     )
 
 returns : tie.Need-returns
 returns c =
+    λ n k.
     let a = c .before .before .before .before .before .before in
-    let m = c .before .before .before .before in
-    let h = a .args .t1 in
-    let alone = grown-alone h (a .pre .0) (a .args .s) (c .before .before .before .with .result) (m .meet .result) (a .pre .1 .1) (c .before .before .before .with .ensures) (m .meet .ensures) in
-    let is = opened-is h (a .pre .0) (a .args .s) (m .meet .result) (c .before .before .below .result) (c .before .less .result) (a .pre .1 .1) (m .meet .ensures) (c .before .before .below .ensures) (c .before .less .ensures) in
-    subst (λ l. Grown (h .n) (view h) l (c .grow .result)) is (c .grow .ensures (a .args .s ∷ []) alone)
+    let h = holding (a .args .live) (a .args .rows .now) n in
+    let m = c .before .before .before .before .meet in
+    let lives = near-lives h k (a .args .s) (m .result) (c .before .before .below .result) (c .before .less .result) (a .pre .1 .1) (m .ensures) (c .before .before .below .ensures) (c .before .less .ensures) in
+    let alone = grown-alone h k (a .args .s) (c .before .before .before .with .result) (m .result) (a .pre .1 .1) (c .before .before .before .with .ensures) (m .ensures) in
+    let is = opened-is h k (a .args .s) (m .result) (c .before .before .below .result) (c .before .less .result) (a .pre .1 .1) (m .ensures) (c .before .before .below .ensures) (c .before .less .ensures) in
+    subst (λ l. Grown (h .n) (view h) l (c .grow .result)) is (c .grow .ensures (a .args .live) lives n k (a .args .s ∷ []) alone)
 
 pub opened-spec : {M : Type 1} → statement M
 opened-spec =

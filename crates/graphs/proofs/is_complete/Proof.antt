@@ -8,13 +8,13 @@ use Rattle.graphs.proofs.is_complete.Statement.{statement}
 use Rattle.graphs.proofs.is_complete.Tie as tie
 
 abbrev Inv-loop : tie.InvT-loop
-Inv-loop rows left₀ left = Done rows left₀ left
+Inv-loop h left₀ left = Done (h .rows) left₀ left
 
 abbrev μ-loop : tie.MeasureT-loop
-μ-loop rows left₀ left = size 64 left
+μ-loop h left₀ left = size 64 left
 
 loop-holds : tie.Need-loop-holds Inv-loop μ-loop
-loop-holds c = done-none (c .before .args .h .rows) (c .before .args .h .live)
+loop-holds c = done-none (c .args .t1 .rows) (c .args .t1 .live)
 
 lowest-requires : tie.Need-lowest-requires Inv-loop μ-loop
 lowest-requires c κs = search needs
@@ -25,8 +25,8 @@ without-requires c κs = search needs
 mul-less : tie.Need-mul-less Inv-loop μ-loop
 mul-less c = search needs
 
-array-read-less : tie.Need-array-read-less Inv-loop μ-loop
-array-read-less c = search needs
+element-copy-out-less : tie.Need-element-copy-out-less Inv-loop μ-loop
+element-copy-out-less c = search needs
 
 less-requires : tie.Need-less-requires Inv-loop μ-loop
 less-requires c κs = search needs
@@ -34,19 +34,19 @@ less-requires c κs = search needs
 returns : tie.Need-returns Inv-loop μ-loop
 returns c =
     let a = c .before .before .before .before .before .before .before in
-    not-done (a .args .h .rows) (a .args .h .live) _ _ _ _ (c .before .before .before .before .before .loop .inv) (c .before .before .before .lowest .ensures) (c .before .before .without .ensures) (c .before .less .ensures)
-    (a .args .h) refl refl (a .pre) (c .if1 .taken)
+    not-done (a .args .t1 .rows) (a .args .t1 .live) _ _ _ _ (c .before .before .before .before .before .before .loop .inv) (c .before .before .before .before .lowest .ensures) (c .before .before .before .without .ensures) (c .before .less .ensures)
+    (a .args .t1) refl refl (a .pre) (c .if1 .taken)
 
 loop-less : tie.Need-loop-less Inv-loop μ-loop
-loop-less c = left-falls _ _ _ (c .before .before .before .lowest .ensures) (c .before .before .without .ensures)
+loop-less c = left-falls _ _ _ (c .before .before .before .before .lowest .ensures) (c .before .before .before .without .ensures)
 
 loop-again : tie.Need-loop-again Inv-loop μ-loop
 loop-again c =
     let a = c .before .before .before .before .before .before .before in
-    done-next (a .args .h .rows) (a .args .h .live) _ _ _ _ (c .before .before .before .before .before .loop .inv) (c .before .before .before .lowest .ensures) (c .before .before .without .ensures) (c .before .less .ensures) (c .if1 .left)
+    done-next (a .args .t1 .rows) (a .args .t1 .live) _ _ _ _ (c .before .before .before .before .before .before .loop .inv) (c .before .before .before .before .lowest .ensures) (c .before .before .before .without .ensures) (c .before .less .ensures) (c .if1 .left)
 
 returns-2 : tie.Need-returns-2 Inv-loop μ-loop
-returns-2 c = done-all (c .before .before .before .args .h) (c .before .before .before .pre) (c .before .loop .left) (c .loop-test .left) (c .before .loop .inv)
+returns-2 c = done-all (c .before .before .args .t1) (c .before .before .pre) (c .before .loop .left) (c .loop-test .left) (c .before .loop .inv)
 
 pub is-complete-spec : {M : Type 1} → statement M
 is-complete-spec =
@@ -58,7 +58,7 @@ is-complete-spec =
     lowest-requires
     without-requires
     mul-less
-    array-read-less
+    element-copy-out-less
     less-requires
     returns
     loop-less

@@ -8,71 +8,71 @@ use Rattle.graphs.proofs.merged.Tie as tie
 mul-meet : tie.Need-mul-meet
 mul-meet c = search needs
 
-array-read-meet : tie.Need-array-read-meet
-array-read-meet c = search needs
+element-copy-out-meet : tie.Need-element-copy-out-meet
+element-copy-out-meet c = search needs
 
 meet-requires : tie.Need-meet-requires
 meet-requires c κs = search needs
 
-linked-requires : tie.Need-linked-requires
-linked-requires c κs = search needs
-
 mul-join : tie.Need-mul-join
 mul-join c = search needs
 
-array-read-join : tie.Need-array-read-join
-array-read-join c = search needs
+element-copy-out-join : tie.Need-element-copy-out-join
+element-copy-out-join c = search needs
 
 mul-join-2 : tie.Need-mul-join-2
 mul-join-2 c = search needs
 
-array-read-join-2 : tie.Need-array-read-join-2
-array-read-join-2 c = search needs
+element-copy-out-join-2 : tie.Need-element-copy-out-join-2
+element-copy-out-join-2 c = search needs
 
 join-requires : tie.Need-join-requires
 join-requires c κs = search needs
 
-mul-new : tie.Need-mul-new
-mul-new c = search needs
+link-requires : tie.Need-link-requires
+link-requires c κs = search needs
 
-array-write-new : tie.Need-array-write-new
-array-write-new c = search needs
+mul-r : tie.Need-mul-r
+mul-r c = search needs
 
-cast-all-renamed : tie.Need-cast-all-renamed
-cast-all-renamed c = search needs
+element-write-r : tie.Need-element-write-r
+element-write-r c = search needs
 
-cast-all-renamed-2 : tie.Need-cast-all-renamed-2
-cast-all-renamed-2 c = search needs
+cast-rename : tie.Need-cast-rename
+cast-rename c = search needs
 
-all-renamed-requires : tie.Need-all-renamed-requires
-all-renamed-requires c κs = search needs
+cast-rename-2 : tie.Need-cast-rename-2
+cast-rename-2 c = search needs
+
+rename-requires : tie.Need-rename-requires
+rename-requires c κs = search needs
 
 without-requires : tie.Need-without-requires
 without-requires c κs = search needs
 
 returns : tie.Need-returns
 returns c =
-    let a = c .before .before .before .before .before .before .before in
-    merged-is (a .args .h) _ (a .args .u) (a .args .v) (a .pre) (c .before .before .before .before .meet .result) (c .before .before .before .linked .result) (c .before .before .join .result)
-    (search needs) refl (c .before .before .before .before .meet .ensures) (c .before .before .before .linked .ensures) (c .before .before .join .ensures) refl (c .before .all-renamed .ensures) (c .without .ensures)
+    let a = c .before .before .before .before .before .before .before .before .before .before in
+    merged-is (a .args .h) _ (a .args .u) (a .args .v) (a .pre) (c .before .before .before .before .before .before .before .before .meet .result) _ (c .before .before .before .before .before .join .result)
+    (search needs) refl (c .before .before .before .before .before .before .before .before .meet .ensures) (c .before .before .before .link .ensures) (c .before .before .before .before .before .join .ensures) refl (c .before .rename .ensures) (c .without .ensures)
 
 pub merged-spec : {M : Type 1} → statement M
 merged-spec =
     tie.close
     (tie.spec
     mul-meet
-    array-read-meet
+    element-copy-out-meet
     meet-requires
-    linked-requires
     mul-join
-    array-read-join
+    element-copy-out-join
     mul-join-2
-    array-read-join-2
+    element-copy-out-join-2
     join-requires
-    mul-new
-    array-write-new
-    cast-all-renamed
-    cast-all-renamed-2
-    all-renamed-requires
+    link-requires
+    mul-r
+    element-write-r
+    cast-rename
+    cast-rename-2
+    rename-requires
     without-requires
     returns)

@@ -1,24 +1,25 @@
 -- `mycielski::serving` meets its contract. The loop's invariant: s has the vertices that are adjacent to all that is done. The measure: what is left.
 -- Assumes nothing.
 use mathlib.Core.Path.{_≡_, refl, subst}
-use borrow.Author.Needs.{needs}
+use Rattle.graphs.proofs.LoopLaws.{left-falls}
 use Rattle.sets.specs.Set.{size}
-use Rattle.graphs.specs.Held.{Held}
+use Rattle.graphs.specs.Held.{Held, holding}
 use Rattle.graphs.specs.declared.Node.{Node}
 use Rattle.cliques.specs.Growth.{Within}
-use Rattle.graphs.proofs.LoopLaws.{left-falls}
+use Rattle.mycielski.proofs.DoneLaws.{within-again}
 use Rattle.mycielski.proofs.SetLoops.{Serving, serving-start, serving-again, serving-end}
+use borrow.Author.Needs.{needs}
 use Rattle.mycielski.proofs.serving.Statement.{statement}
 use Rattle.mycielski.proofs.serving.Tie as tie
 
 abbrev Inv-loop : tie.InvT-loop
-Inv-loop near rows s₀ left₀ s left = (h : Node) → (k : Held h) → h .rows ≡ rows → h .live ≡ s₀ → Within near (h .live) → Serving h k near s left
+Inv-loop live rows near s₀ left₀ s left = Within left near × ((m : Node) → (k : Held (holding live rows m)) → Within near live → Serving (holding live rows m) k near s left)
 
 abbrev μ-loop : tie.MeasureT-loop
-μ-loop near rows s₀ left₀ s left = size 64 left
+μ-loop live rows near s₀ left₀ s left = size 64 left
 
 loop-holds : tie.Need-loop-holds Inv-loop μ-loop
-loop-holds c = λ h k e f l. rw (← f) (serving-start h k (c .before .args .near))
+loop-holds c = (λ x t. t, λ m k l. serving-start (holding (c .args .live) (c .args .rows .now) m) k (c .args .near))
 
 lowest-requires : tie.Need-lowest-requires Inv-loop μ-loop
 lowest-requires c κs = search needs
@@ -26,8 +27,8 @@ lowest-requires c κs = search needs
 mul-meet : tie.Need-mul-meet Inv-loop μ-loop
 mul-meet c = search needs
 
-array-read-meet : tie.Need-array-read-meet Inv-loop μ-loop
-array-read-meet c = search needs
+element-copy-out-meet : tie.Need-element-copy-out-meet Inv-loop μ-loop
+element-copy-out-meet c = search needs
 
 meet-requires : tie.Need-meet-requires Inv-loop μ-loop
 meet-requires c κs = search needs
@@ -36,26 +37,25 @@ without-requires : tie.Need-without-requires Inv-loop μ-loop
 without-requires c κs = search needs
 
 loop-less : tie.Need-loop-less Inv-loop μ-loop
-loop-less c =
-    let b = c .before .before .before .before in
-    let a = b .before .before in
-    let i = b .loop .inv (a .args .h) (a .pre .0) refl refl (a .pre .1) in
-    left-falls (b .loop .left) (c .before .before .lowest .result) (c .without .result) (c .before .before .lowest .ensures) (c .without .ensures)
+loop-less c = left-falls (c .before .before .before .before .before .loop .left) (c .before .before .before .lowest .result) (c .without .result) (c .before .before .before .lowest .ensures) (c .without .ensures)
 
 loop-again : tie.Need-loop-again Inv-loop μ-loop
 loop-again c =
-    let b = c .before .before .before .before in
-    let a = b .before .before in
-    λ h k e f l.
-    serving-again h k (a .args .near) (b .loop .s) (b .loop .left) (c .before .before .lowest .result) (c .before .meet .result) (c .without .result) l
-    (b .loop .inv h k e f l) (c .before .before .lowest .ensures) (rw e (c .before .meet .ensures)) (c .without .ensures)
+    let a = c .before .before .before .before .before .before in
+    let b = c .before .before .before .before .before .loop in (
+      within-again (a .args .near) (b .left) (c .before .before .before .lowest .result) (c .without .result) (b .inv .0) (c .before .before .before .lowest .ensures) (c .without .ensures),
+      λ m k l.
+          serving-again (holding (a .args .live) (a .args .rows .now) m) k (a .args .near) (b .s) (b .left) (c .before .before .before .lowest .result) (c .before .meet .result) (c .without .result) l
+          (b .inv .1 m k l) (c .before .before .before .lowest .ensures) (c .before .meet .ensures) (c .without .ensures),
+    )
 
 returns : tie.Need-returns Inv-loop μ-loop
 returns c =
-    let a = c .before .before .before in
-    let i = c .before .loop .inv (a .args .h) (a .pre .0) refl refl (a .pre .1) in
-    serving-end (a .args .h) (a .pre .0) (a .args .near) (c .before .loop .s)
-    (subst (λ l. Serving (a .args .h) (a .pre .0) (a .args .near) (c .before .loop .s) l) (c .loop-test .left) i)
+    let a = c .before .before in
+    let b = c .before .loop in
+    λ m k.
+    let h = holding (a .args .live) (a .args .rows .now) m in
+    serving-end h k (a .args .near) (b .s) (subst (λ l. Serving h k (a .args .near) (b .s) l) (c .loop-test .left) (b .inv .1 m k (a .pre)))
 
 pub serving-spec : {M : Type 1} → statement M
 serving-spec =
@@ -66,7 +66,7 @@ serving-spec =
     loop-holds
     lowest-requires
     mul-meet
-    array-read-meet
+    element-copy-out-meet
     meet-requires
     without-requires
     loop-less

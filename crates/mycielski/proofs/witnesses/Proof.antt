@@ -1,26 +1,35 @@
 -- `mycielski::witnesses` meets its contract. The loop's invariant: ws has the vertices that are adjacent, for each v that is done, to some member of
 -- S(v). The measure: what is left. Assumes nothing.
-use mathlib.Core.Path.{subst}
-use Prim.Native.Nat.{_-_, _^_}
+use mathlib.Core.Path.{_≡_, subst}
+use mathlib.Core.Bool.{Bool}
+use mathlib.Core.List.{List}
+use Prim.Native.Nat.{ℕ, _-_, _^_}
 use lib.Bits.{bitAnd}
-use borrow.Author.Needs.{needs}
-use Rattle.sets.specs.Set.{size}
-use Rattle.sets.proofs.SetLaws.{without-is}
-use Rattle.graphs.specs.Held.{Held}
-use Rattle.mycielski.specs.Words.{Inside}
+use lib.ListN.{getD}
 use Rattle.graphs.proofs.LoopLaws.{left-falls}
-use Rattle.mycielski.proofs.RoundLoops.{serving-live, Witness, witness-start, witness-more, witness-end, witness-none}
+use Rattle.sets.specs.Set.{has, size}
+use Rattle.sets.proofs.SetLaws.{without-is}
+use Rattle.graphs.specs.Held.{Held, holding}
+use Rattle.graphs.specs.declared.Node.{Node}
+use Rattle.cliques.specs.Growth.{Within}
+use Rattle.mycielski.proofs.DoneLaws.{within-again}
+use Rattle.mycielski.proofs.WitnessLoops.{live-among, serving-live, Witness, witness-start, witness-more, witness-end, witness-none}
+use borrow.Author.Needs.{needs}
 use Rattle.mycielski.proofs.witnesses.Statement.{statement}
 use Rattle.mycielski.proofs.witnesses.Tie as tie
 
 abbrev Inv-loop : tie.InvT-loop
-Inv-loop h near ws₀ left₀ ws left = (k : Held h) → (i : Inside h (record { set = left₀; near = near })) → Witness h k (record { set = left₀; near = near }) i ws left
+Inv-loop live rows set near ws₀ left₀ ws left =
+    Within left set
+    × ((m : Node) → (k : Held (holding live rows m)) → (i : Within set live) → Witness (holding live rows m) k set (λ x y. has (getD near x 0) y) i live ws left)
 
 abbrev μ-loop : tie.MeasureT-loop
-μ-loop h near ws₀ left₀ ws left = size 64 left
+μ-loop live rows set near ws₀ left₀ ws left = size 64 left
 
 loop-holds : tie.Need-loop-holds Inv-loop μ-loop
-loop-holds c = λ k i. witness-start (c .before .args .h) k _ i
+loop-holds c =
+    let a = c .args in
+    (λ x t. t, λ m k i. witness-start (holding (a .live) (a .rows .now) m) k (a .set) (λ x y. has (getD (a .near .now) x 0) y) i (a .live))
 
 lowest-requires : tie.Need-lowest-requires Inv-loop μ-loop
 lowest-requires c κs = search needs
@@ -28,60 +37,67 @@ lowest-requires c κs = search needs
 mul-serving : tie.Need-mul-serving Inv-loop μ-loop
 mul-serving c = search needs
 
-array-read-serving : tie.Need-array-read-serving Inv-loop μ-loop
-array-read-serving c = search needs
+element-copy-out-serving : tie.Need-element-copy-out-serving Inv-loop μ-loop
+element-copy-out-serving c = search needs
 
 serving-requires : tie.Need-serving-requires Inv-loop μ-loop
-serving-requires c κs =
-    let a = c .before .before .before .before in
-    (a .pre .0, λ x t. a .pre .1 .ends (c .lowest .result) x t)
+serving-requires c κs = λ x t. c .before .before .before .before .pre .ends (c .before .lowest .result) x t
 
 reached-requires : tie.Need-reached-requires Inv-loop μ-loop
-reached-requires c κs =
-    let a = c .before .before .before .before .before in
-    (a .pre .0, serving-live (a .args .h) (a .pre .0) (a .args .p) (a .pre .1) (c .before .lowest .result) (c .serving .result) (c .serving .ensures))
+reached-requires c κs = search needs
 
 meet-requires : tie.Need-meet-requires Inv-loop μ-loop
 meet-requires c κs = search needs
 
 returns : tie.Need-returns Inv-loop μ-loop
 returns c =
-    let q = c .before .before .before .before in
-    let b = q .before .before in
-    let a = b .before .before in
-    let out = (b .loop .left) - bitAnd (b .loop .left) (2 ^ (q .lowest .result)) in
-    witness-none (a .args .h) (a .pre .0) (a .args .p) (a .pre .1) out
-    (subst (λ w. Witness (a .args .h) (a .pre .0) (a .args .p) (a .pre .1) w out) (c .if1 .taken)
-    (witness-more (a .args .h) (a .pre .0) (a .args .p) (a .pre .1) (b .loop .ws) (b .loop .left) (q .lowest .result) (c .before .before .before .serving .result)
-    (c .before .before .reached .result) (c .before .meet .result) out (b .loop .inv (a .pre .0) (a .pre .1)) (q .lowest .ensures)
-    (c .before .before .before .serving .ensures) (c .before .before .reached .ensures) (c .before .meet .ensures) (without-is (b .loop .left) (q .lowest .result))))
+    let a = c .before .before .before .before .before .before .before .before in
+    let b = c .before .before .before .before .before .before .before .loop in
+    λ m k.
+    let h = holding (a .args .live) (a .args .rows .now) m in
+    let v = c .before .before .before .before .before .lowest in
+    let s = c .before .before .before .serving in
+    let out = (b .left) - bitAnd (b .left) (2 ^ (v .result)) in
+    let i = a .pre .verts in
+    witness-none h k (a .args .set) (λ x y. has (getD (a .args .near .now) x 0) y) i (a .args .live) (λ x t. t)
+    (live-among h k (a .args .set) (λ x y. has (getD (a .args .near .now) x 0) y) i) out
+    (subst (λ w. Witness h k (a .args .set) (λ x y. has (getD (a .args .near .now) x 0) y) i (a .args .live) w out) (c .if1 .taken)
+    (witness-more h k (a .args .set) (λ x y. has (getD (a .args .near .now) x 0) y) i (a .args .live) (λ x t. t) (b .ws) (b .left) (v .result) (s .result)
+    (c .before .before .reached .result) (c .before .meet .result) out (b .inv .1 m k i) (v .ensures) (s .ensures m k)
+    (c .before .before .reached .ensures (a .args .live) (serving-live h k (a .args .set) (λ x y. has (getD (a .args .near .now) x 0) y) i (v .result) (s .result) (s .ensures m k)) m k)
+    (c .before .meet .ensures) (without-is (b .left) (v .result))))
 
 without-requires : tie.Need-without-requires Inv-loop μ-loop
 without-requires c κs = search needs
 
 loop-less : tie.Need-loop-less Inv-loop μ-loop
-loop-less c =
-    let q = c .before .before .before .before .before in
-    let b = q .before .before in
-    let a = b .before .before in
-    left-falls (b .loop .left) (q .lowest .result) (c .without .result) (q .lowest .ensures) (c .without .ensures)
+loop-less c = left-falls (c .before .before .before .before .before .before .before .before .loop .left) (c .before .before .before .before .before .before .lowest .result) (c .without .result) (c .before .before .before .before .before .before .lowest .ensures) (c .without .ensures)
 
 loop-again : tie.Need-loop-again Inv-loop μ-loop
 loop-again c =
-    let q = c .before .before .before .before .before in
-    let b = q .before .before in
-    let a = b .before .before in
-    λ k i.
-    witness-more (a .args .h) k (a .args .p) i (b .loop .ws) (b .loop .left) (q .lowest .result) (c .before .before .before .before .serving .result)
-    (c .before .before .before .reached .result) (c .before .before .meet .result) (c .without .result) (b .loop .inv k i) (q .lowest .ensures)
-    (c .before .before .before .before .serving .ensures) (c .before .before .before .reached .ensures) (c .before .before .meet .ensures) (c .without .ensures)
+    let a = c .before .before .before .before .before .before .before .before .before in
+    let b = c .before .before .before .before .before .before .before .before .loop in
+    let v = c .before .before .before .before .before .before .lowest in
+    let s = c .before .before .before .before .serving in (
+      within-again (a .args .set) (b .left) (v .result) (c .without .result) (b .inv .0) (v .ensures) (c .without .ensures),
+      λ m k i.
+          let h = holding (a .args .live) (a .args .rows .now) m in
+          witness-more h k (a .args .set) (λ x y. has (getD (a .args .near .now) x 0) y) i (a .args .live) (λ x t. t) (b .ws) (b .left) (v .result) (s .result)
+          (c .before .before .before .reached .result) (c .before .before .meet .result) (c .without .result) (b .inv .1 m k i) (v .ensures) (s .ensures m k)
+          (c .before .before .before .reached .ensures (a .args .live) (serving-live h k (a .args .set) (λ x y. has (getD (a .args .near .now) x 0) y) i (v .result) (s .result) (s .ensures m k)) m k)
+          (c .before .before .meet .ensures) (c .without .ensures),
+    )
 
 returns-2 : tie.Need-returns-2 Inv-loop μ-loop
 returns-2 c =
-    let b = c .before in
-    let a = b .before .before in
-    witness-end (a .args .h) (a .pre .0) (a .args .p) (a .pre .1) (b .loop .ws)
-    (subst (λ l. Witness (a .args .h) (a .pre .0) (a .args .p) (a .pre .1) (b .loop .ws) l) (c .loop-test .left) (b .loop .inv (a .pre .0) (a .pre .1)))
+    let a = c .before .before in
+    let b = c .before .loop in
+    let i = a .pre .verts in
+    λ m k.
+    let h = holding (a .args .live) (a .args .rows .now) m in
+    witness-end h k (a .args .set) (λ x y. has (getD (a .args .near .now) x 0) y) i (a .args .live) (λ x t. t)
+    (live-among h k (a .args .set) (λ x y. has (getD (a .args .near .now) x 0) y) i) (b .ws)
+    (subst (λ q. Witness h k (a .args .set) (λ x y. has (getD (a .args .near .now) x 0) y) i (a .args .live) (b .ws) q) (c .loop-test .left) (b .inv .1 m k i))
 
 pub witnesses-spec : {M : Type 1} → statement M
 witnesses-spec =
@@ -92,7 +108,7 @@ witnesses-spec =
     loop-holds
     lowest-requires
     mul-serving
-    array-read-serving
+    element-copy-out-serving
     serving-requires
     reached-requires
     meet-requires

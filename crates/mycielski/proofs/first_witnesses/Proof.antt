@@ -1,0 +1,144 @@
+-- `mycielski::first_witnesses` meets its contract. The loop's invariant: ws has the vertices that are adjacent, for each v that is done, to some member
+-- of S(v). The measure: what is left. Assumes nothing.
+use mathlib.Core.Path.{_≡_, subst}
+use mathlib.Core.Bool.{Bool}
+use Prim.Native.Nat.{ℕ, _-_, _^_}
+use lib.Bits.{bitAnd}
+use Rattle.graphs.proofs.LoopLaws.{left-falls}
+use Rattle.sets.specs.Set.{has, size}
+use Rattle.sets.proofs.SetLaws.{without-is}
+use Rattle.graphs.specs.Held.{Held, holding}
+use Rattle.graphs.specs.declared.Node.{Node}
+use Rattle.cliques.specs.Growth.{Within}
+use Rattle.mycielski.specs.Rounds.{Part, whole}
+use Rattle.mycielski.proofs.DoneLaws.{within-again}
+use Rattle.mycielski.proofs.WitnessLoops.{serving-live, Witness, witness-start, witness-more, witness-end, witness-none}
+use Rattle.mycielski.proofs.FirstLoops.{first-serving, outside-among}
+use borrow.Author.Needs.{needs}
+use Rattle.mycielski.proofs.first_witnesses.Statement.{statement}
+use Rattle.mycielski.proofs.first_witnesses.Tie as tie
+
+abbrev Inv-loop : tie.InvT-loop
+Inv-loop live rows c lack few ws₀ left₀ ws left =
+    Within left c
+    × ((m : Node) → (k : Held (holding live rows m)) → (i : Within c live) → Witness (holding live rows m) k c (whole (has c) .edge) i ws₀ ws left)
+
+abbrev μ-loop : tie.MeasureT-loop
+μ-loop live rows c lack few ws₀ left₀ ws left = size 64 left
+
+lacking-requires : tie.Need-lacking-requires Inv-loop μ-loop
+lacking-requires c κs = search needs
+
+less-requires : tie.Need-less-requires Inv-loop μ-loop
+less-requires c κs = search needs
+
+outside-requires : tie.Need-outside-requires Inv-loop μ-loop
+outside-requires c κs = search needs
+
+loop-holds : tie.Need-loop-holds Inv-loop μ-loop
+loop-holds c =
+    let a = c .before .before .before .args in
+    (λ x t. t, λ m k i. witness-start (holding (a .live) (a .rows .now) m) k (a .c) (whole (has (a .c)) .edge) i (c .outside .result))
+
+lowest-requires : tie.Need-lowest-requires Inv-loop μ-loop
+lowest-requires c κs = search needs
+
+mul-meet : tie.Need-mul-meet Inv-loop μ-loop
+mul-meet c = search needs
+
+element-copy-out-meet : tie.Need-element-copy-out-meet Inv-loop μ-loop
+element-copy-out-meet c = search needs
+
+meet-requires : tie.Need-meet-requires Inv-loop μ-loop
+meet-requires c κs = search needs
+
+less-requires-2 : tie.Need-less-requires-2 Inv-loop μ-loop
+less-requires-2 c κs = search needs
+
+reached-requires : tie.Need-reached-requires Inv-loop μ-loop
+reached-requires c κs = search needs
+
+meet-requires-2 : tie.Need-meet-requires-2 Inv-loop μ-loop
+meet-requires-2 c κs = search needs
+
+returns : tie.Need-returns Inv-loop μ-loop
+returns c =
+    let a = c .before .before .before .before .before .before .before .before .before .before .before .before in
+    let b = c .before .before .before .before .before .before .before .before .loop in
+    λ m k.
+    let h = holding (a .args .live) (a .args .rows .now) m in
+    let e = whole (has (a .args .c)) .edge in
+    let f = c .before .before .before .before .before .before .before .before .before .outside in
+    let l = c .before .before .before .before .before .before .before .before .before .before .before .lacking in
+    let v = c .before .before .before .before .before .before .lowest in
+    let out = (b .left) - bitAnd (b .left) (2 ^ (v .result)) in
+    let s = first-serving h k (a .args .c) (a .pre) (l .result) (l .ensures) (v .result) (c .before .before .before .before .before .before .before .before .before .before .less .result) (c .before .before .before .before .meet .result) (c .before .before .before .less2 .result)
+    (b .inv .0 (v .result) (v .ensures .member)) (c .before .before .before .before .before .before .before .before .before .before .less .ensures) (c .before .before .before .before .meet .ensures) (c .before .before .before .less2 .ensures) in
+    witness-none h k (a .args .c) e (a .pre) (f .result) (f .ensures .within)
+    (outside-among h k (a .args .c) (a .pre) (l .result) (l .ensures) (f .result) (f .ensures)) out
+    (subst (λ w. Witness h k (a .args .c) e (a .pre) (f .result) w out) (c .if1 .taken)
+    (witness-more h k (a .args .c) e (a .pre) (f .result) (f .ensures .within) (b .ws) (b .left) (v .result) (c .before .before .before .less2 .result)
+    (c .before .before .reached .result) (c .before .meet2 .result) out (b .inv .1 m k (a .pre)) (v .ensures) s
+    (c .before .before .reached .ensures (a .args .live) (serving-live h k (a .args .c) e (a .pre) (v .result) (c .before .before .before .less2 .result) s) m k)
+    (c .before .meet2 .ensures) (without-is (b .left) (v .result))))
+
+without-requires : tie.Need-without-requires Inv-loop μ-loop
+without-requires c κs = search needs
+
+loop-less : tie.Need-loop-less Inv-loop μ-loop
+loop-less c = left-falls (c .before .before .before .before .before .before .before .before .before .loop .left) (c .before .before .before .before .before .before .before .lowest .result) (c .without .result) (c .before .before .before .before .before .before .before .lowest .ensures) (c .without .ensures)
+
+loop-again : tie.Need-loop-again Inv-loop μ-loop
+loop-again c =
+    let a = c .before .before .before .before .before .before .before .before .before .before .before .before .before in
+    let b = c .before .before .before .before .before .before .before .before .before .loop in
+    let f = c .before .before .before .before .before .before .before .before .before .before .outside in
+    let l = c .before .before .before .before .before .before .before .before .before .before .before .before .lacking in
+    let v = c .before .before .before .before .before .before .before .lowest in (
+      within-again (a .args .c) (b .left) (v .result) (c .without .result) (b .inv .0) (v .ensures) (c .without .ensures),
+      λ m k i.
+          let h = holding (a .args .live) (a .args .rows .now) m in
+          let e = whole (has (a .args .c)) .edge in
+          let s = first-serving h k (a .args .c) i (l .result) (l .ensures) (v .result) (c .before .before .before .before .before .before .before .before .before .before .before .less .result) (c .before .before .before .before .before .meet .result) (c .before .before .before .before .less2 .result)
+          (b .inv .0 (v .result) (v .ensures .member)) (c .before .before .before .before .before .before .before .before .before .before .before .less .ensures) (c .before .before .before .before .before .meet .ensures) (c .before .before .before .before .less2 .ensures) in
+          witness-more h k (a .args .c) e i (f .result) (f .ensures .within) (b .ws) (b .left) (v .result) (c .before .before .before .before .less2 .result)
+          (c .before .before .before .reached .result) (c .before .before .meet2 .result) (c .without .result) (b .inv .1 m k i) (v .ensures) s
+          (c .before .before .before .reached .ensures (a .args .live) (serving-live h k (a .args .c) e i (v .result) (c .before .before .before .before .less2 .result) s) m k)
+          (c .before .before .meet2 .ensures) (c .without .ensures),
+    )
+
+returns-2 : tie.Need-returns-2 Inv-loop μ-loop
+returns-2 c =
+    let a = c .before .before .before .before .before in
+    let b = c .before .loop in
+    let f = c .before .before .outside in
+    let l = c .before .before .before .before .lacking in
+    λ m k.
+    let h = holding (a .args .live) (a .args .rows .now) m in
+    let e = whole (has (a .args .c)) .edge in
+    witness-end h k (a .args .c) e (a .pre) (f .result) (f .ensures .within)
+    (outside-among h k (a .args .c) (a .pre) (l .result) (l .ensures) (f .result) (f .ensures)) (b .ws)
+    (subst (λ q. Witness h k (a .args .c) e (a .pre) (f .result) (b .ws) q) (c .loop-test .left) (b .inv .1 m k (a .pre)))
+
+pub first-witnesses-spec : {M : Type 1} → statement M
+first-witnesses-spec =
+    tie.close
+    (tie.spec
+    Inv-loop
+    μ-loop
+    lacking-requires
+    less-requires
+    outside-requires
+    loop-holds
+    lowest-requires
+    mul-meet
+    element-copy-out-meet
+    meet-requires
+    less-requires-2
+    reached-requires
+    meet-requires-2
+    returns
+    without-requires
+    loop-less
+    loop-again
+    returns-2)
