@@ -3,9 +3,12 @@
 //!     bench TESTS
 //!
 //! TESTS is the folder with `graphs` and `walks`. All walks are run in turns, for processor time, with slotsheet's budget; their answers are
-//! compared, and a difference ends the run.
+//! compared, and a difference ends the run. A word after TESTS, as in `bench TESTS queen`, leaves only the lists whose names have it.
+//! With the feature `proved` the proved library stands beside the hand-written walks, called through its C interface.
 
 mod clock;
+#[cfg(feature = "proved")]
+mod proved;
 
 use std::path::{Path, PathBuf};
 use std::process::ExitCode;
@@ -13,10 +16,44 @@ use std::process::ExitCode;
 use bench::lists::load;
 use bench::{described, reading, tuned, Walk};
 use clock::seconds;
-use second::{colouring, list, sheet};
+use second::{colouring, list, sheet, Refused};
 
-/// The walks side by side. The first is what the others are measured against.
-const WALKS: [(&str, Walk); 2] = [("plain", described::fewest), ("tuned", tuned::fewest)];
+/// The walks side by side. Each is measured against those before it.
+const WALKS: &[(&str, Walk)] = &[
+    ("plain", described::fewest),
+    ("tuned", tuned::fewest),
+    #[cfg(feature = "proved")]
+    ("proved", proved::fewest),
+];
+
+type Bounds = fn(&[u64]) -> Result<(u32, u32), Refused>;
+
+/// Both bounds of a list, by whom.
+const BOUNDS: &[(&str, Bounds)] = &[
+    ("plain", described::bounds),
+    ("tuned", tuned::bounds),
+    #[cfg(feature = "proved")]
+    ("proved", proved::bounds),
+];
+
+type Reader = fn(&[u8], &mut [u64]) -> Result<usize, Refused>;
+
+/// Readers of a clash text: by lines and words, in one pass, and the proved one.
+const READERS: &[(&str, Reader)] = &[
+    ("read, words", list::read),
+    ("read, 1 pass", reading::read),
+    #[cfg(feature = "proved")]
+    ("read, proved", proved::read),
+];
+
+type Checker = fn(&[u8], &[u8], &mut [u8]) -> Option<usize>;
+
+/// Checks of a sheet against its list: k of an accepted one.
+const CHECKERS: &[(&str, Checker)] = &[
+    ("check, words", |list, sheet, colours| sheet::check(list, sheet, colours).ok()),
+    #[cfg(feature = "proved")]
+    ("check, proved", proved::check),
+];
 
 /// The budget of `slotsheet`.
 const BUDGET: u64 = 1_000_000;
@@ -86,16 +123,25 @@ fn walked(rows: &[u64]) -> Vec<f64> {
     seconds(&mut calls, 0.3)
 }
 
-/// Nodes per second of every walk on every list. False where answers differ.
-fn walks(tests: &Path) -> bool {
+/// Pairs of walks, the later measured against the earlier.
+fn pairs() -> Vec<(usize, usize)> {
+    (0..WALKS.len()).flat_map(|later| (0..later).map(move |earlier| (later, earlier))).collect()
+}
+
+fn ratio_name((later, earlier): (usize, usize)) -> String {
+    format!("{}/{}", WALKS[later].0, WALKS[earlier].0)
+}
+
+/// Nodes per second of every walk on every list that `word` names. False where answers differ.
+fn walks(tests: &Path, word: &str) -> bool {
     println!("Walks: thousand nodes per second of processor time, budget {BUDGET}; k is 'over' where the budget is spent");
     let mut head: Vec<String> = ["list", "entries", "density %", "k", "nodes"].map(String::from).to_vec();
     head.extend(WALKS.iter().map(|(name, _)| name.to_string()));
-    head.extend(WALKS[1..].iter().map(|(name, _)| format!("{name}/{}", WALKS[0].0)));
+    head.extend(pairs().into_iter().map(ratio_name));
     head.push("second ms".into());
     row(&head);
-    let mut ratios = vec![Vec::new(); WALKS.len() - 1];
-    for name in LISTS {
+    let mut ratios = vec![Vec::new(); pairs().len()];
+    for name in LISTS.iter().filter(|name| name.contains(word)) {
         let rows = named(tests, name);
         let Some((k, nodes)) = answered(&rows) else {
             println!("{name}: the walks differ");
@@ -107,32 +153,41 @@ fn walks(tests: &Path) -> bool {
         let second = (clock::now() - start) * 1e3;
         let mut cells = vec![name.to_string(), rows.len().to_string(), density(&rows).to_string(), k, nodes.to_string()];
         cells.extend(rates.iter().map(|rate| format!("{rate:.0}")));
-        for (ratios, rate) in ratios.iter_mut().zip(&rates[1..]) {
-            ratios.push(rate / rates[0]);
-            cells.push(format!("{:.2}", rate / rates[0]));
+        for (ratios, (later, earlier)) in ratios.iter_mut().zip(pairs()) {
+            ratios.push(rates[later] / rates[earlier]);
+            cells.push(format!("{:.2}", rates[later] / rates[earlier]));
         }
         cells.push(format!("{second:.2}"));
         row(&cells);
     }
-    for (ratios, (name, _)) in ratios.iter().zip(&WALKS[1..]) {
+    for (ratios, pair) in ratios.iter().zip(pairs()) {
         let least = ratios.iter().copied().fold(f64::INFINITY, f64::min);
-        println!("{name}/{}: geometric mean {:.2}, least {least:.2}", WALKS[0].0, geometric_mean(ratios));
+        println!("{}: geometric mean {:.2}, least {least:.2}", ratio_name(pair), geometric_mean(ratios));
     }
     true
 }
 
-/// Both bounds of a list's first node, per call.
-fn bounds(tests: &Path) {
-    println!("\nBoth bounds of a list: nanoseconds per call, with the test of the matrix");
-    row(&["list", "clique", "mycielskian", "plain", "tuned"].map(String::from));
-    for name in ["2-Insertions_3", "myciel5", "queen6_6", "queen8_8", "random30_50", "random64_10", "random64_50", "random64_90"] {
+/// Both bounds of a list's first node, per call. False where they differ.
+fn bounds(tests: &Path, word: &str) -> bool {
+    println!("\nBoth bounds of a list: nanoseconds, with the test of the matrix; proved: two calls, each with its own clique");
+    let mut head: Vec<String> = ["list", "clique", "mycielskian"].map(String::from).to_vec();
+    head.extend(BOUNDS.iter().map(|(name, _)| name.to_string()));
+    row(&head);
+    let lists = ["2-Insertions_3", "myciel5", "queen6_6", "queen8_8", "random30_50", "random64_10", "random64_50", "random64_90"];
+    for name in lists.iter().filter(|name| name.contains(word)) {
         let rows = named(tests, name);
         let (clique, mycielskian) = described::bounds(&rows).expect("a list");
-        let taken = seconds(&mut [&mut || discard(described::bounds(&rows)), &mut || discard(tuned::bounds(&rows))], 0.2);
+        if BOUNDS.iter().any(|(_, bounds)| bounds(&rows) != Ok((clique, mycielskian))) {
+            println!("{name}: the bounds differ");
+            return false;
+        }
+        let mut calls: Vec<_> = BOUNDS.iter().map(|(_, bounds)| || discard(bounds(&rows))).collect();
+        let mut calls: Vec<&mut dyn FnMut()> = calls.iter_mut().map(|call| call as &mut dyn FnMut()).collect();
         let mut cells = vec![name.to_string(), clique.to_string(), mycielskian.to_string()];
-        cells.extend(taken.iter().map(|taken| format!("{:.0}", taken * 1e9)));
+        cells.extend(seconds(&mut calls, 0.2).iter().map(|taken| format!("{:.0}", taken * 1e9)));
         row(&cells);
     }
+    true
 }
 
 /// Texts of several kinds: many repeated edges, one long comment, and lists as they are written.
@@ -146,39 +201,55 @@ fn samples(tests: &Path) -> Vec<(&'static str, Vec<u8>)> {
     vec![("repeats", repeated.into()), ("comment", comment.into()), written("myciel4"), written("queen8_8"), written("complete64")]
 }
 
-/// Reading and checking: the second program's, made of lines and words, and the reader in one pass.
-fn texts(tests: &Path) {
+/// Megabytes per second of each of these calls over so many bytes.
+fn rates(calls: &mut [&mut dyn FnMut()], bytes: usize) -> Vec<String> {
+    seconds(calls, 0.2).iter().map(|taken| format!("{:.0}", bytes as f64 / taken / 1e6)).collect()
+}
+
+/// Reading, and checking the sheet of a smallest division. False where answers differ.
+fn texts(tests: &Path) -> bool {
     println!("\nTexts: megabytes per second");
-    row(&["text", "bytes", "read, words", "read, 1 pass", "check, words"].map(String::from));
+    let mut head: Vec<String> = ["text", "bytes"].map(String::from).to_vec();
+    head.extend(READERS.iter().map(|(name, _)| name.to_string()));
+    head.extend(CHECKERS.iter().map(|(name, _)| name.to_string()));
+    row(&head);
     for (name, text) in samples(tests) {
         let mut rows = [0; 64];
         let n = list::read(&text, &mut rows).expect("a list");
-        let mut colours = vec![0; n];
+        let division = colouring::fewest(&rows[..n]);
         let mut out = [0; 1024];
-        let length = sheet::write(&colouring::fewest(&rows[..n]).colours, &mut out).expect("a division");
-        let mut again = [0; 64];
-        let taken = seconds(
-            &mut [&mut || discard(list::read(&text, &mut rows)), &mut || discard(reading::read(&text, &mut again)), &mut || {
-                discard(sheet::check(&text, &out[..length], &mut colours))
-            }],
-            0.2,
-        );
-        let bytes = [text.len(), text.len(), text.len() + length];
+        let length = sheet::write(&division.colours, &mut out).expect("a division");
+        let sheet = &out[..length];
+        let read = READERS.iter().all(|(_, read)| read(&text, &mut [0; 64]) == Ok(n));
+        if !read || CHECKERS.iter().any(|(_, check)| check(&text, sheet, &mut [0; 64]) != Some(division.k)) {
+            println!("{name}: the answers differ");
+            return false;
+        }
         let mut cells = vec![name.to_string(), text.len().to_string()];
-        cells.extend(taken.iter().zip(bytes).map(|(taken, bytes)| format!("{:.0}", bytes as f64 / taken / 1e6)));
+        let mut calls: Vec<_> = READERS.iter().map(|(_, read)| || discard(read(&text, &mut [0; 64]))).collect();
+        let mut calls: Vec<&mut dyn FnMut()> = calls.iter_mut().map(|call| call as &mut dyn FnMut()).collect();
+        cells.extend(rates(&mut calls, text.len()));
+        let mut calls: Vec<_> = CHECKERS.iter().map(|(_, check)| || discard(check(&text, sheet, &mut [0; 64]))).collect();
+        let mut calls: Vec<&mut dyn FnMut()> = calls.iter_mut().map(|call| call as &mut dyn FnMut()).collect();
+        cells.extend(rates(&mut calls, text.len() + length));
         row(&cells);
     }
+    true
 }
 
 fn main() -> ExitCode {
-    let Some(tests) = std::env::args().nth(1).map(PathBuf::from) else {
-        eprintln!("usage: bench TESTS");
-        return ExitCode::FAILURE;
+    let words: Vec<String> = std::env::args().skip(1).collect();
+    let (tests, word) = match &words[..] {
+        [tests] => (PathBuf::from(tests), ""),
+        [tests, word] => (PathBuf::from(tests), word.as_str()),
+        _ => {
+            eprintln!("usage: bench TESTS [WORD]");
+            return ExitCode::FAILURE;
+        }
     };
-    if !walks(&tests) {
-        return ExitCode::FAILURE;
+    if walks(&tests, word) && bounds(&tests, word) && texts(&tests) {
+        ExitCode::SUCCESS
+    } else {
+        ExitCode::FAILURE
     }
-    bounds(&tests);
-    texts(&tests);
-    ExitCode::SUCCESS
 }

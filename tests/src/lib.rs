@@ -5,6 +5,10 @@ pub mod inputs;
 pub mod lists;
 
 #[cfg(test)]
+mod calls;
+#[cfg(test)]
+mod proved;
+#[cfg(test)]
 mod stored;
 #[cfg(test)]
 mod texts;

@@ -15,13 +15,18 @@ fn folder(name: &str) -> PathBuf {
 }
 
 /// A stored list by its name.
-fn stored(name: &str) -> Vec<u64> {
+pub fn stored(name: &str) -> Vec<u64> {
     let path = ["graphs", "walks", "../examples"].iter().map(|place| folder(place).join(format!("{name}.col"))).find(|path| path.exists());
     load(&path.unwrap_or_else(|| panic!("no list {name}"))).expect("a list")
 }
 
+/// What `slotsheet` prints for a stored list.
+pub fn printed(name: &str) -> Vec<u8> {
+    fs::read(folder("walks/sheets").join(name)).expect("stored")
+}
+
 /// Lines "NAME NUMBER NUMBER".
-fn lines(file: &str) -> Vec<(String, u64, u64)> {
+pub fn lines(file: &str) -> Vec<(String, u64, u64)> {
     let text = fs::read_to_string(folder("walks").join(file)).expect("stored");
     let line = |line: &str| match line.split(' ').collect::<Vec<_>>()[..] {
         [name, first, second] => (name.to_string(), first.parse().unwrap(), second.parse().unwrap()),
@@ -111,7 +116,7 @@ fn walks_that_end() {
         assert_eq!((walked.k, walked.nodes), (k, nodes), "{name}");
         let mut out = [0; 1024];
         let length = sheet::write(&colours, &mut out).expect("a division");
-        assert_eq!(fs::read(folder("walks/sheets").join(&name)).expect("stored"), &out[..length], "{name}");
+        assert_eq!(printed(&name), &out[..length], "{name}");
         let mut checked = vec![0; rows.len()];
         assert_eq!(sheet::check(list::text_of(&rows).as_bytes(), &out[..length], &mut checked), Ok(k as usize), "{name}");
         assert_eq!(checked, colours, "{name}");
@@ -124,6 +129,6 @@ fn walks_that_do_not_end() {
         let rows = stored(&name);
         let refused = tuned::fewest(&rows, &mut vec![0; rows.len()], BUDGET).expect_err(&name);
         assert_eq!((refused.why.number(), refused.place), (number, nodes), "{name}");
-        assert_eq!(fs::read(folder("walks/sheets").join(&name)).expect("stored"), b"refused 6 line 0\n", "{name}");
+        assert_eq!(printed(&name), b"refused 6 line 0\n", "{name}");
     }
 }

@@ -6,3 +6,4 @@ pub mod Groups
 pub mod ReadBack
 pub mod FirstClash
 pub mod Calls
+pub mod OwnList

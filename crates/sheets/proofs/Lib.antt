@@ -3,3 +3,5 @@ pub mod Steps
 pub mod Fold
 pub mod Answers
 pub mod Unique
+pub mod Examples
+pub mod Lines

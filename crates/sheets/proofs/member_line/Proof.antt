@@ -1,10 +1,11 @@
+-- `sheets::member_line` meets its contract: each way out is a case of `memberOf`; the two sets are read as its tests. Assumes nothing.
 use Rattle.clashes.specs.Matrix.{matrix}
 use Rattle.sets.specs.Set.{has}
 use Rattle.sheets.proofs.Steps.{below-floor}
 -- `sheets::member_line` meets its contract: each way out is a case of `memberOf`; the two sets are read as its tests. Assumes nothing.
 use mathlib.Core.Path.{_∙_, sym}
 use native.Mathlib.Omega.{arith}
-use borrow.Author.Tests.{le-leb, lt-leb, lt-ltb, le-ltb}
+use borrow.Author.Tests.{le-leb, lt-leb, lt-ltb}
 use Rattle.sheets.proofs.Sets.{common-none, common-some}
 use borrow.Author.Needs.{needs}
 use Rattle.sheets.proofs.member_line.Statement.{statement}

@@ -1,0 +1,29 @@
+//! The proved library's calls in the shapes of the hand-written ones.
+
+use bench::Walked;
+use second::{Refusal, Refused};
+
+/// The benches lend valid lists and texts: the budget is the only refusal they meet.
+fn refused(said: slotsheet::Refused) -> Refused {
+    assert_eq!(said.why, slotsheet::Refusal::Budget, "{said}");
+    Refused { why: Refusal::Budget, place: said.place }
+}
+
+pub fn fewest(rows: &[u64], colours: &mut [u8], budget: u64) -> Result<Walked, Refused> {
+    let walked = slotsheet::fewest(rows, colours, budget).map_err(refused)?;
+    Ok(Walked { k: walked.k as u64, nodes: walked.nodes, complete: walked.leaves })
+}
+
+pub fn bounds(rows: &[u64]) -> Result<(u32, u32), Refused> {
+    let clique = slotsheet::clique_bound(rows).map_err(refused)?;
+    let mycielskian = slotsheet::mycielskian_bound(rows).map_err(refused)?;
+    Ok((clique as u32, mycielskian as u32))
+}
+
+pub fn read(text: &[u8], rows: &mut [u64]) -> Result<usize, Refused> {
+    slotsheet::read_list(text, rows).map_err(refused)
+}
+
+pub fn check(list: &[u8], sheet: &[u8], colours: &mut [u8]) -> Option<usize> {
+    slotsheet::check_sheet(list, sheet, colours).ok()
+}

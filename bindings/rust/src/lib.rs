@@ -1,0 +1,155 @@
+//! Fewest sittings from a clash list: the proved library's calls over slices.
+//!
+//! A list of n entries (0 to 64) is n rows; bit j of row i says that entries i and j clash. Groups are numbered from 0 by smallest member. A
+//! refused call writes nothing; an accepted one writes what its own words say, and nothing beside it.
+//!
+//! ```
+//! let text = b"p edge 3 2\ne 1 2\ne 2 3\n";
+//! let mut rows = [0; slotsheet::ENTRIES];
+//! let n = slotsheet::read_list(text, &mut rows).unwrap();
+//! let mut colours = [0; slotsheet::ENTRIES];
+//! let walked = slotsheet::fewest(&rows[..n], &mut colours, 1_000_000).unwrap();
+//! assert_eq!((walked.k, walked.nodes), (2, 3));
+//! let mut out = [0; slotsheet::SHEET_BYTES];
+//! let length = slotsheet::write_sheet(&colours[..n], &mut out).unwrap();
+//! assert_eq!(&out[..length], b"groups 2\nsize 2\n1\n3\nsize 1\n2\n");
+//! ```
+
+use std::fmt;
+
+/// The C interface itself.
+pub mod raw;
+mod refusal;
+
+pub use refusal::Refusal;
+
+/// The most entries of a list.
+pub const ENTRIES: usize = 64;
+/// The most bytes of a text that is read.
+pub const BYTES: usize = 65_536;
+/// No sheet is longer.
+pub const SHEET_BYTES: usize = 641;
+/// No written list is longer.
+pub const LIST_BYTES: usize = 15_576;
+
+/// A refusal with what is "also returned" beside it: row, line, index or nodes, by document 01's table; 0 where it names nothing.
+#[derive(Clone, Copy, Debug, PartialEq, Eq)]
+pub struct Refused {
+    pub why: Refusal,
+    pub place: u64,
+}
+
+/// An accepted walk.
+#[derive(Clone, Copy, Debug, PartialEq, Eq)]
+pub struct Walked {
+    pub k: usize,
+    pub nodes: u64,
+    /// The plain walk's number of complete graphs; 0 for the bounded walk.
+    pub leaves: u64,
+}
+
+/// One of the two texts of a check.
+#[derive(Clone, Copy, Debug, PartialEq, Eq)]
+pub enum Text {
+    List,
+    Sheet,
+}
+
+/// A refused check, and which of the two texts is at fault.
+#[derive(Clone, Copy, Debug, PartialEq, Eq)]
+pub struct Fault {
+    pub text: Text,
+    pub refused: Refused,
+}
+
+impl fmt::Display for Refused {
+    fn fmt(&self, f: &mut fmt::Formatter) -> fmt::Result {
+        write!(f, "refused {} ({:?}) at {}", self.why.number(), self.why, self.place)
+    }
+}
+
+impl fmt::Display for Fault {
+    fn fmt(&self, f: &mut fmt::Formatter) -> fmt::Result {
+        let text = if self.text == Text::List { "list" } else { "sheet" };
+        write!(f, "{text}: {}", self.refused)
+    }
+}
+
+impl std::error::Error for Refused {}
+impl std::error::Error for Fault {}
+
+/// The answer, or the refusal of this number at this place.
+fn answer<T>(refusal: usize, place: u64, accepted: T) -> Result<T, Refused> {
+    if refusal == 0 {
+        return Ok(accepted);
+    }
+    Err(Refused { why: Refusal::of(refusal), place })
+}
+
+/// Whether rows are a list: 1 to 4.
+pub fn validity(rows: &[u64]) -> Result<(), Refused> {
+    // SAFETY: in this and every call below, each slice is passed whole, and what is written is borrowed by this call alone.
+    let said = unsafe { raw::slotsheet_validity(rows.as_ptr(), rows.len()) };
+    answer(said.refusal, said.row as u64, ())
+}
+
+/// The clique bound: 1 to 4.
+pub fn clique_bound(rows: &[u64]) -> Result<usize, Refused> {
+    // SAFETY: as in `validity`.
+    let said = unsafe { raw::slotsheet_clique_bound(rows.as_ptr(), rows.len()) };
+    answer(said.refusal, said.row as u64, said.bound)
+}
+
+/// The Mycielskian bound: 1 to 4.
+pub fn mycielskian_bound(rows: &[u64]) -> Result<usize, Refused> {
+    // SAFETY: as in `validity`.
+    let said = unsafe { raw::slotsheet_mycielskian_bound(rows.as_ptr(), rows.len()) };
+    answer(said.refusal, said.row as u64, said.bound)
+}
+
+fn walked(said: raw::Walk) -> Result<Walked, Refused> {
+    let place = if said.refusal == Refusal::Budget as usize { said.nodes } else { said.row as u64 };
+    answer(said.refusal, place, Walked { k: said.k, nodes: said.nodes, leaves: said.leaves })
+}
+
+/// The fewest groups: 1 to 4, 5, 7, 6. Writes the group number of each of the n entries.
+pub fn fewest(rows: &[u64], colours: &mut [u8], budget: u64) -> Result<Walked, Refused> {
+    // SAFETY: as in `validity`.
+    walked(unsafe { raw::slotsheet_fewest(rows.as_ptr(), rows.len(), colours.as_mut_ptr(), colours.len(), budget) })
+}
+
+/// The same without bounds, with the number of complete graphs. For small lists.
+pub fn plain(rows: &[u64], colours: &mut [u8], budget: u64) -> Result<Walked, Refused> {
+    // SAFETY: as in `validity`.
+    walked(unsafe { raw::slotsheet_plain(rows.as_ptr(), rows.len(), colours.as_mut_ptr(), colours.len(), budget) })
+}
+
+/// Reads a clash text: 18, then 10 to 17, each with its line. Writes the first n rows and returns n.
+pub fn read_list(text: &[u8], rows: &mut [u64]) -> Result<usize, Refused> {
+    // SAFETY: as in `validity`.
+    let said = unsafe { raw::slotsheet_read_list(text.as_ptr(), text.len(), rows.as_mut_ptr(), rows.len()) };
+    answer(said.refusal, said.line as u64, said.entries)
+}
+
+/// Writes a list's clash text and returns its length: 1 to 4, 19.
+pub fn write_list(rows: &[u64], out: &mut [u8]) -> Result<usize, Refused> {
+    // SAFETY: as in `validity`.
+    let said = unsafe { raw::slotsheet_write_list(rows.as_ptr(), rows.len(), out.as_mut_ptr(), out.len()) };
+    answer(said.refusal, said.place as u64, said.length)
+}
+
+/// Writes a sheet and returns its length: 1, 38, 19.
+pub fn write_sheet(colours: &[u8], out: &mut [u8]) -> Result<usize, Refused> {
+    // SAFETY: as in `validity`.
+    let said = unsafe { raw::slotsheet_write_sheet(colours.as_ptr(), colours.len(), out.as_mut_ptr(), out.len()) };
+    answer(said.refusal, said.place as u64, said.length)
+}
+
+/// Checks a sheet against a list: the list's refusals, 5, then the sheet's. Writes each entry's group number and returns k.
+pub fn check_sheet(list: &[u8], sheet: &[u8], colours: &mut [u8]) -> Result<usize, Fault> {
+    // SAFETY: as in `validity`.
+    let said =
+        unsafe { raw::slotsheet_check_sheet(list.as_ptr(), list.len(), sheet.as_ptr(), sheet.len(), colours.as_mut_ptr(), colours.len()) };
+    let text = if said.text == 1 { Text::List } else { Text::Sheet };
+    answer(said.refusal, said.line as u64, said.groups).map_err(|refused| Fault { text, refused })
+}

@@ -1,0 +1,64 @@
+//! The C interface as it stands in include/slotsheet.h.
+
+#[repr(C)]
+pub struct Verdict {
+    pub refusal: usize,
+    pub row: usize,
+}
+
+#[repr(C)]
+pub struct Bound {
+    pub refusal: usize,
+    pub row: usize,
+    pub bound: usize,
+}
+
+#[repr(C)]
+pub struct Walk {
+    pub refusal: usize,
+    pub row: usize,
+    pub k: usize,
+    pub nodes: u64,
+    pub leaves: u64,
+}
+
+#[repr(C)]
+pub struct Reading {
+    pub refusal: usize,
+    pub line: usize,
+    pub entries: usize,
+}
+
+#[repr(C)]
+pub struct Writing {
+    pub refusal: usize,
+    pub place: usize,
+    pub length: usize,
+}
+
+#[repr(C)]
+pub struct Checking {
+    pub refusal: usize,
+    pub line: usize,
+    pub groups: usize,
+    pub text: usize,
+}
+
+extern "C" {
+    pub fn slotsheet_validity(rows: *const u64, rows_length: usize) -> Verdict;
+    pub fn slotsheet_clique_bound(rows: *const u64, rows_length: usize) -> Bound;
+    pub fn slotsheet_mycielskian_bound(rows: *const u64, rows_length: usize) -> Bound;
+    pub fn slotsheet_fewest(rows: *const u64, rows_length: usize, colours: *mut u8, colours_length: usize, budget: u64) -> Walk;
+    pub fn slotsheet_plain(rows: *const u64, rows_length: usize, colours: *mut u8, colours_length: usize, budget: u64) -> Walk;
+    pub fn slotsheet_read_list(text: *const u8, text_length: usize, rows: *mut u64, rows_length: usize) -> Reading;
+    pub fn slotsheet_write_list(rows: *const u64, rows_length: usize, out: *mut u8, out_length: usize) -> Writing;
+    pub fn slotsheet_write_sheet(colours: *const u8, colours_length: usize, out: *mut u8, out_length: usize) -> Writing;
+    pub fn slotsheet_check_sheet(
+        list: *const u8,
+        list_length: usize,
+        sheet: *const u8,
+        sheet_length: usize,
+        colours: *mut u8,
+        colours_length: usize,
+    ) -> Checking;
+}

@@ -1,0 +1,311 @@
+-- The line that a refusal names: 17 cannot arise, a fault at the sheet's end names the number of lines plus one, and the part that is then
+-- shown is the empty one at the text's end.
+--
+--   lineCount t : how many lines t has
+use Prim.Native.Nat.{ℕ, zero, suc, _+_, _-_, _≤_, _<_}
+use mathlib.Core.Path.{_≡_, refl, sym, ap, subst, _∙_}
+use mathlib.Core.List.{List}
+use mathlib.Core.Bool.{Bool, _&&_, _||_}
+use native.Mathlib.Nat.{add-zero}
+use native.Mathlib.Decide.{decLt}
+use native.Mathlib.Omega.{arith}
+use lib.Dec.{leb, ltb, eqb}
+use lib.ListN.{length, drop, set, drop-of-length-le}
+use denote.Ref.{RefT, now}
+use Rattle.sets.specs.Lists.{all, any}
+use Rattle.clashes.specs.Matrix.{matrix}
+use Rattle.lines.specs.Words.{aloneOf}
+use Rattle.lines.specs.declared.Alone.{Alone}
+use Rattle.lines.specs.declared.Alone.the-variants.{Only, Other}
+use Rattle.lines.specs.Text.{Text, done, unended, ended, linesOf, lineEnd, nextStart, placeOf}
+use Rattle.lines.specs.Part.{PartOf}
+use Rattle.lines.proofs.Basics.{cond-cases}
+use Rattle.lines.proofs.Lines.{line-ended, line-unended, next-mid, next-end, place-le}
+use Rattle.lists.specs.Read.{stepOf as stepList, after as afterList, readFrom, readOf, edgeOf, inside as insideList, start as startList, noRows}
+use Rattle.lists.specs.Shape.{shapeOf}
+use Rattle.lists.specs.declared.Fault.{Fault}
+use Rattle.lists.specs.declared.Fault.the-variants.{Line as NoLine, Headless, Second, Size, Vertex, Loop, Count as Counted, Room, Long as TooLong}
+use Rattle.lists.specs.declared.Found.{Found}
+use Rattle.lists.specs.declared.Head.{Head}
+use Rattle.lists.specs.declared.Reading.{Reading}
+use Rattle.lists.specs.declared.Reading.the-variants.{Read, Refused as Unreadable}
+use Rattle.lists.specs.declared.Shape.{Shape}
+use Rattle.lists.specs.declared.Shape.the-variants.{Comment, P, E, Bad}
+use Rattle.lists.specs.declared.Step.{Step as ListStep}
+use Rattle.lists.specs.declared.Step.the-variants.{Stop as StopList, Go, Edge}
+use Rattle.sheets.specs.Check.{noColours, groupsWord, sizeWord, behindOf, groupsOf, sizeOf, memberOf, stepOf, met, none, after, checkFrom, start, sheetOf, against, checkOf}
+use Rattle.sheets.specs.Promise.{numbersOf, holderOf, ShownOf, PreviewPromise}
+use Rattle.sheets.proofs.Fold.{check-short}
+use Rattle.sheets.specs.declared.SheetFault.{SheetFault}
+use Rattle.sheets.specs.declared.SheetFault.the-variants.{Long, Line, Member, Order, Twice, Clash, Ends, Missing, Extra}
+use Rattle.sheets.specs.declared.Checked.{Checked}
+use Rattle.sheets.specs.declared.Checked.the-variants.{Accepted, Unread, Short, Refused}
+use Rattle.sheets.specs.declared.Outcome.{Outcome}
+use Rattle.sheets.specs.declared.Progress.{Progress}
+use Rattle.sheets.specs.declared.Step.{Step}
+use Rattle.sheets.specs.declared.Step.the-variants.{Stop, Count, Place}
+
+-- ---- 17 cannot arise: the list's reading
+
+abbrev Roomy : Reading → Type 0
+Roomy (Read n) = Unit {0}
+Roomy (Unreadable Room k) = ⊥
+Roomy (Unreadable NoLine k) = Unit {0}
+Roomy (Unreadable Headless k) = Unit {0}
+Roomy (Unreadable Second k) = Unit {0}
+Roomy (Unreadable Size k) = Unit {0}
+Roomy (Unreadable Vertex k) = Unit {0}
+Roomy (Unreadable Loop k) = Unit {0}
+Roomy (Unreadable Counted k) = Unit {0}
+Roomy (Unreadable TooLong k) = Unit {0}
+
+abbrev Enough : ListStep → Type 0
+Enough (StopList f) = (k : ℕ) → Roomy (Unreadable f k)
+Enough (Go h) = Unit {0}
+Enough (Edge h i j) = Unit {0}
+
+edge-enough : (h : Head) (u v : ℕ) → Enough (edgeOf h u v)
+edge-enough h u v =
+    cond-cases Enough (insideList (h .n) u) _ _
+    (λ _. cond-cases Enough (insideList (h .n) v) _ _ (λ _. cond-cases Enough (eqb u v) _ _ (λ _ k. tt) (λ _. tt)) (λ _ k. tt))
+    (λ _ k. tt)
+
+-- n is at most 64, and so many rows are lent
+step-enough : (h : Head) (s : Shape) → Enough (stepList h 64 s)
+step-enough h Bad = λ k. tt
+step-enough h Comment = tt
+step-enough h (P n m) =
+    cond-cases Enough (h .seen) _ _ (λ _ k. tt)
+    (λ _. cond-cases Enough (leb n 64) _ _ (λ e. rw e tt) (λ _ k. tt))
+step-enough h (E u v) = cond-cases Enough (h .seen) _ _ (λ _. edge-enough h u v) (λ _ k. tt)
+
+from-roomy : (t : Text) (k : ℕ) (h : Head) (g : List ℕ) → Roomy (readFrom t 64 k h g .answer)
+from-roomy done k h g =
+    cond-cases (λ (x : Found). Roomy (x .answer)) (h .seen) _ _ (λ _. cond-cases (λ (x : Found). Roomy (x .answer)) (eqb (h .count) (h .m)) _ _ (λ _. tt) (λ _. tt)) (λ _. tt)
+from-roomy (unended l) k h g = tt
+from-roomy (ended l t) k h g = go (stepList h 64 (shapeOf l)) (step-enough h (shapeOf l)) (from-roomy t (k + 1))
+  where
+    go : (st : ListStep) → Enough st → ((h : Head) (g : List ℕ) → Roomy (readFrom t 64 (k + 1) h g .answer)) → Roomy (afterList st g k (readFrom t 64 (k + 1)) .answer)
+    go (StopList f) e r = e k
+    go (Go h) e r = r h g
+    go (Edge h i j) e r = r h _
+
+read-roomy : (s : List ℕ) → Roomy (readOf s 64 .answer)
+read-roomy s = cond-cases (λ (x : Found). Roomy (x .answer)) (leb (length s) 65536) _ _ (λ _. from-roomy (linesOf s) 1 startList noRows) (λ _. tt)
+
+-- ---- the line that is named
+
+abbrev pub lineCount : Text → ℕ
+lineCount done = 0
+lineCount (unended l) = 1
+lineCount (ended l t) = suc (lineCount t)
+
+-- 35 and 36 name the line e after the last; any other fault one of the lines from k on
+abbrev Spot : SheetFault → ℕ → ℕ → ℕ → Type 0
+Spot Ends k e j = j ≡ e
+Spot Missing k e j = j ≡ e
+Spot Long k e j = ⊥
+Spot Line k e j = (k ≤ j) × (j < e)
+Spot Member k e j = (k ≤ j) × (j < e)
+Spot Order k e j = (k ≤ j) × (j < e)
+Spot Twice k e j = (k ≤ j) × (j < e)
+Spot Clash k e j = (k ≤ j) × (j < e)
+Spot Extra k e j = (k ≤ j) × (j < e)
+
+spot-later : (f : SheetFault) (k i e d j : ℕ) → k ≤ i → e ≡ d → Spot f i e j → Spot f k d j
+spot-later Ends k i e d j h z s = s ∙ z
+spot-later Missing k i e d j h z s = s ∙ z
+spot-later Long k i e d j h z s = s
+spot-later Line k i e d j h z s = (omega (arith, s .0), omega (arith, s .1))
+spot-later Member k i e d j h z s = (omega (arith, s .0), omega (arith, s .1))
+spot-later Order k i e d j h z s = (omega (arith, s .0), omega (arith, s .1))
+spot-later Twice k i e d j h z s = (omega (arith, s .0), omega (arith, s .1))
+spot-later Clash k i e d j h z s = (omega (arith, s .0), omega (arith, s .1))
+spot-later Extra k i e d j h z s = (omega (arith, s .0), omega (arith, s .1))
+
+-- an answer of the sheet's own, and its line
+abbrev pub Names : ℕ → ℕ → Checked → Type 0
+Names k e (Accepted n) = Unit {0}
+Names k e (Unread f j) = ⊥
+Names k e Short = ⊥
+Names k e (Refused f j) = Spot f k e j
+
+names-later : (a : Checked) (k i e d : ℕ) → k ≤ i → e ≡ d → Names i e a → Names k d a
+names-later (Accepted n) k i e d h z s = tt
+names-later (Unread f j) k i e d h z s = s
+names-later Short k i e d h z s = s
+names-later (Refused f j) k i e d h z s = spot-later f k i e d j h z s
+
+-- a fault of a line, wherever the line stands
+abbrev InLine : Step → Type 0
+InLine (Stop f) = (k e : ℕ) → k < e → Spot f k e k
+InLine (Count p) = Unit {0}
+InLine (Place p i g) = Unit {0}
+
+module _ (n : ℕ) (clash : ℕ → ℕ → Bool) where
+  groups-in : (a : Alone) → InLine (groupsOf a)
+  groups-in Other = λ k e h. (omega arith, h)
+  groups-in (Only u) = tt
+
+  size-in : (p : Progress) (a : Alone) → InLine (sizeOf p a)
+  size-in p Other = λ k e h. (omega arith, h)
+  size-in p (Only u) = cond-cases InLine (leb 1 u) _ _ (λ _. tt) (λ _ k e h. (omega arith, h))
+
+  member-in : (p : Progress) (m w : ℕ → Bool) (a : Alone) → InLine (memberOf n clash p m w a)
+  member-in p m w Other = λ k e h. (omega arith, h)
+  member-in p m w (Only u) =
+      cond-cases InLine (insideList n u) _ _
+      (λ _. cond-cases InLine (ltb (p .floor) u) _ _
+      (λ _. cond-cases InLine (w (u - 1)) _ _ (λ _ k e h. (omega arith, h))
+      (λ _. cond-cases InLine (any n (λ j. m j && clash (u - 1) j)) _ _ (λ _ k e h. (omega arith, h)) (λ _. tt)))
+      (λ _ k e h. (omega arith, h)))
+      (λ _ k e h. (omega arith, h))
+
+  step-in : (p : Progress) (m w : ℕ → Bool) (l : List ℕ) → InLine (stepOf n clash p m w l)
+  step-in p m w l =
+      cond-cases InLine (p .begun) _ _
+      (λ _. cond-cases InLine (leb 1 (p .need)) _ _ (λ _. member-in p m w (aloneOf l))
+      (λ _. cond-cases InLine (leb 1 (p .left)) _ _ (λ _. size-in p (behindOf sizeWord l)) (λ _ k e h. (omega arith, h))))
+      (λ _. groups-in (behindOf groupsWord l))
+
+  from-names : (t : Text) (k : ℕ) (p : Progress) (m w : ℕ → Bool) (g : List ℕ) → Names k (k + lineCount t) (checkFrom t n clash k p m w g .answer)
+  from-names done k p m w g =
+      let N : Outcome → Type 0 = λ o. Names k (k + 0) (o .answer) in
+      cond-cases N (met p) _ _ (λ _. cond-cases N (all n (λ j. w j || m j)) _ _ (λ _. tt) (λ _. omega arith)) (λ _. omega arith)
+  from-names (unended l) k p m w g = cond-cases (λ (o : Outcome). Names k (k + 1) (o .answer)) (met p) _ _ (λ _. (omega arith, omega arith)) (λ _. (omega arith, omega arith))
+  from-names (ended l t) k p m w g = go (stepOf n clash p m w l) (step-in p m w l) (from-names t (k + 1))
+    where
+      go : (st : Step) → InLine st → ((p : Progress) (m w : ℕ → Bool) (g : List ℕ) → Names (k + 1) (k + 1 + lineCount t) (checkFrom t n clash (k + 1) p m w g .answer))
+          → Names k (k + suc (lineCount t)) (after st k m w g (checkFrom t n clash (k + 1)) .answer)
+      go (Stop f) i r = i k (k + suc (lineCount t)) (omega arith)
+      go (Count q) i r = names-later (checkFrom t n clash (k + 1) q none (λ j. w j || m j) g .answer) k (k + 1) (k + 1 + lineCount t) (k + suc (lineCount t)) (omega arith) (omega arith) (r q none (λ j. w j || m j) g)
+      go (Place q x c) i r = names-later (checkFrom t n clash (k + 1) q (λ j. m j || eqb x j) w (set g x c) .answer) k (k + 1) (k + 1 + lineCount t) (k + suc (lineCount t)) (omega arith) (omega arith) (r q (λ j. m j || eqb x j) w (set g x c))
+
+  -- a sheet that is not too long: 35 and 36 name the number of lines plus one, any other fault one of its lines, from 1
+  pub sheet-names : (s : List ℕ) → length s ≤ 65536 → Names 1 (1 + lineCount (linesOf s)) (sheetOf n clash s .answer)
+  sheet-names s h = subst (λ (o : Outcome). Names 1 (1 + lineCount (linesOf s)) (o .answer)) (check-short s n clash h) (from-names (linesOf s) 1 start none none noColours)
+
+-- ---- the part that is shown at an end
+
+count-none : (s : List ℕ) (a : ℕ) → length s ≤ a → lineCount (linesOf (drop a s)) ≡ 0
+count-none s a h = rw (drop-of-length-le s h)
+
+-- a line is left, and those after it
+count-step : (s : List ℕ) (a : ℕ) → a < length s → lineCount (linesOf (drop a s)) ≡ suc (lineCount (linesOf (drop (nextStart s a) s)))
+count-step s a h = go (decLt (lineEnd s a) (length s))
+  where
+    go : Dec (lineEnd s a < length s) → lineCount (linesOf (drop a s)) ≡ suc (lineCount (linesOf (drop (nextStart s a) s)))
+    go (yes l) =
+        ap lineCount (line-ended s a (lineEnd s a) refl l)
+        ∙ ap (λ (x : ℕ). suc (lineCount (linesOf (drop x s)))) (next-mid s a (lineEnd s a) refl l)
+    go (no l) =
+        ap lineCount (line-unended s a (lineEnd s a) refl h (omega arith))
+        ∙ sym (ap suc (count-none s (nextStart s a) (omega (arith, next-end s a (lineEnd s a) refl (omega arith)))))
+
+-- from line i on, the lines that are left end where the text ends
+place-last : (c : ℕ) (s : List ℕ) (i : ℕ) → lineCount (linesOf (drop (placeOf s i) s)) ≡ c → placeOf s (i + c) ≡ length s
+place-last zero s i e = go (decLt (placeOf s i) (length s))
+  where
+    go : Dec (placeOf s i < length s) → placeOf s (i + 0) ≡ length s
+    go (yes l) = absurd (omega (arith, count-step s (placeOf s i) l))
+    go (no l) = rw (add-zero i) (omega (arith, place-le s i))
+place-last (suc c) s i e = go (decLt (placeOf s i) (length s)) (place-last c s (suc i))
+  where
+    go : Dec (placeOf s i < length s) → (lineCount (linesOf (drop (placeOf s (suc i)) s)) ≡ c → placeOf s (suc i + c) ≡ length s) → placeOf s (i + suc c) ≡ length s
+    go (yes l) r =
+        let z : suc i + c ≡ i + suc c = omega arith in
+        let k = count-step s (placeOf s i) l in
+        sym (ap (placeOf s) z) ∙ r (omega arith)
+    go (no l) r = absurd (omega (arith, count-none s (placeOf s i) (omega arith)))
+
+-- for the line after the last, the empty part at the text's end
+pub shown-end : (s r : RefT (List ℕ)) → ShownOf s (suc (lineCount (linesOf (now s)))) r → PartOf s (length (now s)) (length (now s)) r
+shown-end s r x =
+    let c = lineCount (linesOf (now s)) in
+    let p : placeOf (now s) c ≡ length (now s) = (let z : 0 + c ≡ c = omega arith in sym (ap (placeOf (now s)) z)) ∙ place-last c (now s) 0 refl in
+    let e : lineEnd (now s) (length (now s)) ≡ length (now s) = rw (drop-of-length-le (now s) {i = length (now s)} (omega arith)) (add-zero (length (now s))) in
+    subst (λ (y : ℕ). PartOf s (length (now s)) y r) e (subst (λ (y : ℕ). PartOf s y (lineEnd (now s) y) r) p x)
+
+-- 35 and 36, the two faults at a sheet's end
+abbrev Tail : SheetFault → ℕ → ℕ → Type 0
+Tail Ends e j = j ≡ e
+Tail Missing e j = j ≡ e
+Tail Long e j = Unit {0}
+Tail Line e j = Unit {0}
+Tail Member e j = Unit {0}
+Tail Order e j = Unit {0}
+Tail Twice e j = Unit {0}
+Tail Clash e j = Unit {0}
+Tail Extra e j = Unit {0}
+
+abbrev Ending : ℕ → Checked → Type 0
+Ending e (Accepted n) = Unit {0}
+Ending e (Unread f j) = Unit {0}
+Ending e Short = Unit {0}
+Ending e (Refused f j) = Tail f e j
+
+spot-tail : (f : SheetFault) (k e j : ℕ) → Spot f k e j → Tail f e j
+spot-tail Ends k e j s = s
+spot-tail Missing k e j s = s
+spot-tail Long k e j s = tt
+spot-tail Line k e j s = tt
+spot-tail Member k e j s = tt
+spot-tail Order k e j s = tt
+spot-tail Twice k e j s = tt
+spot-tail Clash k e j s = tt
+spot-tail Extra k e j s = tt
+
+names-ending : (a : Checked) (k e : ℕ) → Names k e a → Ending e a
+names-ending (Accepted n) k e h = tt
+names-ending (Unread f j) k e h = tt
+names-ending Short k e h = tt
+names-ending (Refused f j) k e h = spot-tail f k e j h
+
+check-ending : (list s : List ℕ) (room : ℕ) → Ending (suc (lineCount (linesOf s))) (checkOf list s room .answer)
+check-ending list s room = go (readOf list 64 .answer)
+  where
+    go : (a : Reading) → Ending (suc (lineCount (linesOf s))) (against a (readOf list 64 .rows) s room .answer)
+    go (Unreadable f j) = tt
+    go (Read n) =
+        let E : Outcome → Type 0 = λ o. Ending (suc (lineCount (linesOf s))) (o .answer) in
+        let clash = matrix (readOf list 64 .rows) in
+        let z : 1 + lineCount (linesOf s) ≡ suc (lineCount (linesOf s)) = omega arith in
+        cond-cases E (leb n room) _ _
+        (λ _. cond-cases E (leb (length s) 65536) _ _
+        (λ _. subst (λ (e : ℕ). Ending e (checkFrom (linesOf s) n clash 1 start none none noColours .answer)) z (names-ending (checkFrom (linesOf s) n clash 1 start none none noColours .answer) 1 (1 + lineCount (linesOf s)) (from-names n clash (linesOf s) 1 start none none noColours)))
+        (λ _. tt))
+        (λ _. tt)
+
+-- for them the empty part at the sheet's end is shown
+module _ (list s : RefT (List ℕ)) (room : ℕ) (r : RefT (List ℕ)) (p : PreviewPromise list s room r) (j : ℕ) where
+  at-end : (f : SheetFault) → checkOf (now list) (now s) room .answer ≡ Refused f j → j ≡ suc (lineCount (linesOf (now s))) → PartOf s (length (now s)) (length (now s)) r
+  at-end f e z =
+      let x = subst (λ (a : Checked). ShownOf (holderOf (numbersOf a) list s) (numbersOf a .line) r) e p in
+      shown-end s r (subst (λ (k : ℕ). ShownOf s k r) z x)
+
+  pub preview-ends : checkOf (now list) (now s) room .answer ≡ Refused Ends j → PartOf s (length (now s)) (length (now s)) r
+  preview-ends e = at-end Ends e (subst (Ending (suc (lineCount (linesOf (now s))))) e (check-ending (now list) (now s) room))
+
+  pub preview-missing : checkOf (now list) (now s) room .answer ≡ Refused Missing j → PartOf s (length (now s)) (length (now s)) r
+  preview-missing e = at-end Missing e (subst (Ending (suc (lineCount (linesOf (now s))))) e (check-ending (now list) (now s) room))
+
+-- ---- 17 cannot arise
+
+abbrev Other-than : Checked → Outcome → Type 0
+Other-than a o = ¬ (o .answer ≡ a)
+
+pub never-room : (list s : List ℕ) (room k : ℕ) → ¬ (checkOf list s room .answer ≡ Unread Room k)
+never-room list s room k e = go (readOf list 64 .answer) (read-roomy list) e
+  where
+    fault-is : (f : Fault) (j : ℕ) → Roomy (Unreadable f j) → ¬ (Unread f j ≡ Unread Room k)
+    fault-is f j r e = let z : f ≡ Room = cc in subst (λ (x : Fault). Roomy (Unreadable x j)) z r
+
+    go : (a : Reading) → Roomy a → Other-than (Unread Room k) (against a (readOf list 64 .rows) s room)
+    go (Unreadable f j) r = fault-is f j r
+    go (Read n) r =
+        let clash = matrix (readOf list 64 .rows) in
+        cond-cases (Other-than (Unread Room k)) (leb n room) _ _
+        (λ _. cond-cases (Other-than (Unread Room k)) (leb (length s) 65536) _ _
+        (λ _ e. subst (Names 1 (1 + lineCount (linesOf s))) e (from-names n clash (linesOf s) 1 start none none noColours))
+        (λ _ e. let z : _≡_ {A = ℕ} 0 1 = cc in omega arith))
+        (λ _ e. let z : _≡_ {A = ℕ} 0 1 = cc in omega arith)

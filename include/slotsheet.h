@@ -1,0 +1,130 @@
+/* Fewest sittings from a clash list: the proved library, called from C.
+
+   rt staticlib capi            makes target/staticlib/libcapi.a
+   cc -Iinclude yours.c target/staticlib/libcapi.a
+
+   A list of n entries (0 to 64) is n rows; bit j of rows[i] says that entries i and j clash. Groups are numbered from 0 by smallest member.
+   An answer whose `refusal` is 0 is accepted. Every number that a comment here does not name is 0. Nothing lent is written but what is said
+   here, and a refused call writes nothing. A lent slice is a pointer and a length in elements; the pointer is never NULL and aligned as its
+   type wants, also where the length is 0. What is written must not overlap anything else lent. No call keeps a pointer, prints, allocates
+   or fails otherwise than by its refusal. */
+#ifndef SLOTSHEET_H
+#define SLOTSHEET_H
+
+#include <stddef.h>
+#include <stdint.h>
+
+#ifdef __cplusplus
+extern "C" {
+#endif
+
+#define SLOTSHEET_ENTRIES 64        /* the most entries of a list */
+#define SLOTSHEET_BYTES 65536       /* the most bytes of a text that is read */
+#define SLOTSHEET_SHEET_BYTES 641   /* no sheet is longer */
+#define SLOTSHEET_LIST_BYTES 15576  /* no written list is longer */
+
+/* Numbers given for a refusal; "row", "line", "index" or "nodes" where one of them is returned too. */
+enum slotsheet_refusal {
+    SLOTSHEET_ACCEPTED = 0,
+    SLOTSHEET_MANY = 1,         /* over 64 rows, or colour bytes when writing a sheet */
+    SLOTSHEET_STRAY = 2,        /* a bit at n or above: lowest such row */
+    SLOTSHEET_SELF = 3,         /* row i has bit i: lowest such row */
+    SLOTSHEET_ONE_SIDED = 4,    /* row i has bit j, row j lacks bit i: lowest such i as row */
+    SLOTSHEET_SHORT = 5,        /* colour buffer under n bytes */
+    SLOTSHEET_BUDGET = 6,       /* the walk has more nodes than the budget: nodes = budget */
+    SLOTSHEET_DEEP = 7,         /* over 64 levels of merging */
+    SLOTSHEET_LINE = 10,        /* line of no permitted shape, or last line without its line feed: line */
+    SLOTSHEET_HEADLESS = 11,    /* an e line before any p line, or no p line at all: line */
+    SLOTSHEET_SECOND = 12,      /* a second p line: line */
+    SLOTSHEET_SIZE = 13,        /* p line with over 64 entries: line */
+    SLOTSHEET_VERTEX = 14,      /* an end outside 1 to n: line */
+    SLOTSHEET_LOOP = 15,        /* both ends equal: line */
+    SLOTSHEET_COUNT = 16,       /* number of e lines is not the stated one: line */
+    SLOTSHEET_ROOM = 17,        /* fewer lent rows than n: line of p */
+    SLOTSHEET_LONG = 18,        /* a text over 65,536 bytes */
+    SLOTSHEET_FULL = 19,        /* output buffer too small for the whole text */
+    SLOTSHEET_SHEET_LINE = 30,  /* wrong shape for this place, or last line unended: line */
+    SLOTSHEET_MEMBER = 31,      /* member outside 1 to n: line */
+    SLOTSHEET_ORDER = 32,       /* not above the member, or the group's first, before it: line */
+    SLOTSHEET_TWICE = 33,       /* member stands in an earlier group: line */
+    SLOTSHEET_CLASH = 34,       /* member clashes with an earlier one of its group: line */
+    SLOTSHEET_ENDS = 35,        /* sheet empty, or ends before its counts are met: line */
+    SLOTSHEET_MISSING = 36,     /* all counts met, an entry absent: line */
+    SLOTSHEET_EXTRA = 37,       /* a line after the last group: line */
+    SLOTSHEET_COLOURS = 38      /* colour bytes not numbered by first use from 0: lowest index */
+};
+
+struct slotsheet_verdict {
+    size_t refusal;
+    size_t row;
+};
+
+struct slotsheet_bound {
+    size_t refusal;
+    size_t row;
+    size_t bound;
+};
+
+struct slotsheet_walk {
+    size_t refusal;
+    size_t row;
+    size_t k;         /* the number of groups */
+    uint64_t nodes;   /* nodes entered; the budget where that refused */
+    uint64_t leaves;  /* complete graphs of the plain walk */
+};
+
+struct slotsheet_reading {
+    size_t refusal;
+    size_t line;      /* counted from 1; lines plus one for a fault at the end */
+    size_t entries;
+};
+
+struct slotsheet_writing {
+    size_t refusal;
+    size_t place;     /* a list's row, or the index of a colour byte */
+    size_t length;    /* of the text */
+};
+
+enum slotsheet_text { SLOTSHEET_NONE = 0, SLOTSHEET_LIST = 1, SLOTSHEET_SHEET = 2 };
+
+struct slotsheet_checking {
+    size_t refusal;
+    size_t line;
+    size_t groups;
+    size_t text;      /* the text at fault: an enum slotsheet_text */
+};
+
+/* Whether rows are a list: 1 to 4, each over all rows before the next. */
+struct slotsheet_verdict slotsheet_validity(const uint64_t *rows, size_t rows_length);
+
+/* Lower bounds on the number of groups: 1 to 4. */
+struct slotsheet_bound slotsheet_clique_bound(const uint64_t *rows, size_t rows_length);
+struct slotsheet_bound slotsheet_mycielskian_bound(const uint64_t *rows, size_t rows_length);
+
+/* The fewest groups: 1 to 4, 5, 7, 6. Accepted, writes to colours[i] the number of entry i's group, for each of the n entries; colour bytes
+   from n on stay. */
+struct slotsheet_walk slotsheet_fewest(const uint64_t *rows, size_t rows_length, uint8_t *colours, size_t colours_length, uint64_t budget);
+
+/* The same without bounds: also returns the number of complete graphs. For small lists. */
+struct slotsheet_walk slotsheet_plain(const uint64_t *rows, size_t rows_length, uint8_t *colours, size_t colours_length, uint64_t budget);
+
+/* Reads a clash text: 18, then the first faulty line by 10, 11, 12, 13, 17, 14, 15, then 11, 16. Accepted, writes the first n rows; rows
+   from n on stay. */
+struct slotsheet_reading slotsheet_read_list(const uint8_t *text, size_t text_length, uint64_t *rows, size_t rows_length);
+
+/* Writes a list's clash text: 1 to 4, 19. Accepted, writes the first `length` bytes; those after stay. */
+struct slotsheet_writing slotsheet_write_list(const uint64_t *rows, size_t rows_length, uint8_t *out, size_t out_length);
+
+/* Writes the sheet of n colour bytes: 1, 38, 19. Accepted, writes the first `length` bytes; those after stay. */
+struct slotsheet_writing slotsheet_write_sheet(const uint8_t *colours, size_t colours_length, uint8_t *out, size_t out_length);
+
+/* Checks a sheet against a list: the list's refusals, 5, then the sheet's 18, 30 to 34, 35, 37, 36. Accepted, writes each entry's group
+   number to the first n colour bytes; those after stay. */
+struct slotsheet_checking slotsheet_check_sheet(const uint8_t *list, size_t list_length, const uint8_t *sheet, size_t sheet_length,
+                                                uint8_t *colours, size_t colours_length);
+
+#ifdef __cplusplus
+}
+#endif
+
+#endif

@@ -1,0 +1,235 @@
+//! The proved library, through its C interface, against the second program and the walk that is written straight from document 01.
+
+use std::collections::BTreeMap;
+
+use bench::lists::Numbers;
+use bench::{described, Walk};
+use second::sheet::{self, Text};
+use second::{colouring, list, matrix, Refusal, Refused, BYTES};
+
+use crate::calls::{self, Lent, FILL};
+use crate::inputs::{colours, list_of, matrix as any_matrix, sample};
+use crate::stored::{lines, printed, stored};
+use crate::BUDGET;
+
+const ROW: u64 = 0xA5A5_A5A5_A5A5_A5A5;
+
+/// Nodes of each walk that is stopped early, for the tests' patience.
+const PART: u64 = 100_000;
+
+/// A walk's answer as its five numbers.
+fn walk_numbers(answer: Result<bench::Walked, Refused>) -> [u64; 5] {
+    match answer {
+        Ok(walked) => [0, 0, walked.k, walked.nodes, walked.complete],
+        Err(Refused { why: Refusal::Budget, place }) => [6, 0, 0, place, 0],
+        Err(Refused { why, place }) => [why.number(), place, 0, 0, 0],
+    }
+}
+
+/// An answer of one number, with what is said where it is refused.
+fn numbers(answer: Result<usize, Refused>) -> [usize; 3] {
+    match answer {
+        Ok(value) => [0, 0, value],
+        Err(refused) => [refused.why.number() as usize, refused.place as usize, 0],
+    }
+}
+
+/// Both walks of one list, buffer length and budget: numbers, colours and all memory around them. The bounded walk's answer is returned.
+fn compared(rows: &[u64], room: usize, budget: u64) -> [u64; 5] {
+    type Call = fn(&[u64], &mut [u8], u64) -> [u64; 5];
+    let same = |proved: Call, hand: Walk| {
+        let (mut lent, mut again) = (Lent::new(room, FILL), Lent::new(room, FILL));
+        let said = proved(rows, lent.part(), budget);
+        assert_eq!(said, walk_numbers(hand(rows, again.part(), budget)), "{rows:?} {room} {budget}");
+        assert_eq!(lent, again, "{rows:?} {room} {budget}");
+        said
+    };
+    same(calls::plain, described::plain);
+    same(calls::fewest, described::fewest)
+}
+
+#[test]
+fn small_lists() {
+    let mut drawn = Numbers(41);
+    for _ in 0..4_000 {
+        let rows = list_of(&mut drawn, 9);
+        let n = rows.len();
+        let said = compared(&rows, n, 100_000);
+        assert_eq!(said[..3], [0, 0, colouring::fewest(&rows).k as u64], "{rows:?}");
+        // The budget is exact to one node, and a longer buffer's rest stays.
+        assert_eq!(compared(&rows, n + 3, said[3])[..2], [0, 0]);
+        assert_eq!(compared(&rows, n, said[3] - 1)[0], 6);
+    }
+}
+
+#[test]
+fn longer_lists() {
+    let mut drawn = Numbers(42);
+    let mut ended = 0;
+    for _ in 0..1_500 {
+        let rows = list_of(&mut drawn, 30);
+        let said = compared(&rows, rows.len(), 400);
+        if said[0] == 0 {
+            assert_eq!(said[2] as usize, colouring::fewest(&rows).k, "{rows:?}");
+            ended += 1;
+        }
+    }
+    assert!(ended > 1_000, "{ended}");
+    for n in [40, 55, 63, 64] {
+        for percent in [0, 3, 50, 90, 97, 100] {
+            compared(&bench::lists::random(&mut drawn, n, percent), 64, 300);
+        }
+    }
+}
+
+/// The stored lists: k, nodes and sheet. The slowest walks are left to the bench, which compares them too.
+#[test]
+fn stored_walks() {
+    let mut met = 0;
+    for (name, k, nodes) in lines("expected").into_iter().filter(|(_, _, nodes)| *nodes < 100_000) {
+        let rows = stored(&name);
+        let mut lent = Lent::new(rows.len(), FILL);
+        assert_eq!(calls::fewest(&rows, lent.part(), BUDGET), [0, 0, k, nodes, 0], "{name}");
+        let mut out = [0; slotsheet::SHEET_BYTES];
+        let [refusal, _, length] = calls::write_sheet(lent.part(), &mut out);
+        assert_eq!(refusal, 0, "{name}");
+        assert_eq!(out[..length], printed(&name), "{name}");
+        met += 1;
+    }
+    assert!(met >= 24, "{met}");
+}
+
+/// Lists whose walk spends the budget: one in full, the others with a part of it.
+#[test]
+fn spent_walks() {
+    for (name, number, nodes) in lines("refused") {
+        let rows = stored(&name);
+        let budget = if name == "myciel5" { BUDGET } else { PART };
+        let (mut lent, untouched) = (Lent::new(rows.len(), FILL), Lent::new(rows.len(), FILL));
+        assert_eq!(calls::fewest(&rows, lent.part(), budget), [number, 0, 0, budget.min(nodes), 0], "{name}");
+        assert_eq!(lent, untouched, "{name}");
+    }
+}
+
+/// Lent rows that are often no list: validity, bounds, walks and the written list.
+#[test]
+fn damaged_matrices() {
+    let mut drawn = Numbers(43);
+    let mut met = BTreeMap::new();
+    for _ in 0..20_000 {
+        let rows = any_matrix(&mut drawn);
+        let judged = matrix::judge(&rows);
+        let [refusal, place, _] = numbers(judged.map(|()| 0));
+        assert_eq!(calls::validity(&rows), [refusal, place], "{rows:?}");
+        let bounds = match described::bounds(&rows) {
+            Ok((clique, mycielskian)) => [[0, 0, clique as usize], [0, 0, mycielskian as usize]],
+            Err(_) => [[refusal, place, 0]; 2],
+        };
+        assert_eq!(calls::bounds(&rows), bounds, "{rows:?}");
+        let room = drawn.below(rows.len() as u64 + 3) as usize;
+        compared(&rows, room, drawn.below(20));
+        let length = judged.map_or(0, |()| list::text_of(&rows).len());
+        for room in [length, length.saturating_sub(1), length + 7] {
+            let (mut lent, mut again) = (Lent::new(room, FILL), Lent::new(room, FILL));
+            let said = calls::write_list(&rows, lent.part());
+            assert_eq!(said, numbers(list::write(&rows, again.part())), "{rows:?}");
+            assert_eq!(lent, again, "{rows:?}");
+            *met.entry(said[0]).or_insert(0) += 1;
+        }
+    }
+    assert!([0, 1, 2, 3, 4, 19].iter().all(|number| met.get(number).is_some_and(|&times| times > 100)), "{met:?}");
+}
+
+#[test]
+fn damaged_colours() {
+    let mut drawn = Numbers(44);
+    let mut met = BTreeMap::new();
+    for _ in 0..20_000 {
+        let given = colours(&mut drawn);
+        let room = drawn.below(700) as usize;
+        let (mut lent, mut again) = (Lent::new(room, FILL), Lent::new(room, FILL));
+        let said = calls::write_sheet(&given, lent.part());
+        assert_eq!(said, numbers(sheet::write(&given, again.part())), "{given:?}");
+        assert_eq!(lent, again, "{given:?}");
+        *met.entry(said[0]).or_insert(0) += 1;
+    }
+    assert!([0, 1, 19, 38].iter().all(|number| met.get(number).is_some_and(|&times| times > 100)), "{met:?}");
+}
+
+/// Reading with 64 rows and with few; and checking: every refusal of both texts is met often.
+#[test]
+fn damaged_texts_and_sheets() {
+    let mut drawn = Numbers(45);
+    let mut met = BTreeMap::new();
+    for _ in 0..20_000 {
+        let sample = sample(&mut drawn);
+        for room in [64, sample.room] {
+            let (mut lent, mut again) = (Lent::new(room, ROW), Lent::new(room, ROW));
+            let said = calls::read_list(&sample.list, lent.part());
+            assert_eq!(said, numbers(list::read(&sample.list, again.part())), "{sample:?}");
+            assert_eq!(lent, again, "{sample:?}");
+            *met.entry((0, said[0])).or_insert(0) += 1;
+        }
+        let (mut lent, mut again) = (Lent::new(sample.room, FILL), Lent::new(sample.room, FILL));
+        let said = calls::check_sheet(&sample.list, &sample.sheet, lent.part());
+        let expected = match sheet::check(&sample.list, &sample.sheet, again.part()) {
+            Ok(k) => [0, 0, k, 0],
+            Err(fault) => {
+                let text = if fault.text == Text::List { 1 } else { 2 };
+                [fault.refused.why.number() as usize, fault.refused.place as usize, 0, text]
+            }
+        };
+        assert_eq!(said, expected, "{sample:?}");
+        assert_eq!(lent, again, "{sample:?}");
+        *met.entry((said[3], said[0])).or_insert(0) += 1;
+    }
+    let often = |text, refusal| assert!(met.get(&(text, refusal)).is_some_and(|&times| times > 50), "{text} {refusal}: {met:?}");
+    for refusal in [0, 10, 11, 12, 13, 14, 15, 16, 17, 18] {
+        often(0, refusal);
+    }
+    for refusal in [10, 11, 12, 13, 14, 15, 16, 18] {
+        often(1, refusal);
+    }
+    for refusal in [5, 18, 30, 31, 32, 33, 34, 35, 36, 37] {
+        often(2, refusal);
+    }
+}
+
+/// The wrappers say what the calls say.
+#[test]
+fn safe_wrappers() {
+    let mut drawn = Numbers(46);
+    let same = |said: Result<usize, slotsheet::Refused>| match said {
+        Ok(value) => [0, 0, value],
+        Err(refused) => [refused.why.number(), refused.place as usize, 0],
+    };
+    for _ in 0..3_000 {
+        let rows = any_matrix(&mut drawn);
+        let [clique, mycielskian] = calls::bounds(&rows);
+        assert_eq!(same(slotsheet::validity(&rows).map(|()| 0))[..2], calls::validity(&rows));
+        assert_eq!(same(slotsheet::clique_bound(&rows)), clique);
+        assert_eq!(same(slotsheet::mycielskian_bound(&rows)), mycielskian);
+        let (mut out, mut again) = (vec![FILL; BYTES], vec![FILL; BYTES]);
+        assert_eq!(same(slotsheet::write_list(&rows, &mut out)), calls::write_list(&rows, &mut again));
+        for walk in [slotsheet::fewest, slotsheet::plain].iter().zip([calls::fewest, calls::plain]) {
+            let said = match walk.0(&rows, &mut out[..60], 30) {
+                Ok(walked) => [0, 0, walked.k as u64, walked.nodes, walked.leaves],
+                Err(refused) if refused.why == slotsheet::Refusal::Budget => [6, 0, 0, refused.place, 0],
+                Err(refused) => [refused.why.number() as u64, refused.place, 0, 0, 0],
+            };
+            assert_eq!(said, walk.1(&rows, &mut again[..60], 30));
+        }
+        let sample = sample(&mut drawn);
+        assert_eq!(same(slotsheet::read_list(&sample.list, &mut [0; 64])), calls::read_list(&sample.list, &mut [0; 64]));
+        let said = match slotsheet::check_sheet(&sample.list, &sample.sheet, &mut out[..sample.room]) {
+            Ok(k) => [0, 0, k, 0],
+            Err(fault) => {
+                [fault.refused.why.number(), fault.refused.place as usize, 0, if fault.text == slotsheet::Text::List { 1 } else { 2 }]
+            }
+        };
+        assert_eq!(said, calls::check_sheet(&sample.list, &sample.sheet, &mut again[..sample.room]));
+        let given = colours(&mut drawn);
+        assert_eq!(same(slotsheet::write_sheet(&given, &mut out)), calls::write_sheet(&given, &mut again));
+        assert_eq!(out, again);
+    }
+}
