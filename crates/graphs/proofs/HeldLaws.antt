@@ -12,8 +12,8 @@ use lib.ListN.{length, getD, set}
 use lib.Seq.{getD-set-same, getD-set-other, lt-length-set}
 use borrow.Author.Tests.{eq-eqb, ne-eqb, lt-ltb}
 use Rattle.sets.specs.Lists.{count, upto, members}
-use Rattle.sets.specs.Set.{has, size, IsWith, IsWithout, IsJoin, IsMeet, IsBelow}
-use Rattle.sets.proofs.TestLaws.{T→true, T→false, T-ext, eqb-same, and-true}
+use Rattle.sets.specs.Set.{has, size, IsWith, IsWithout, IsJoin, IsMeet, IsLess, IsBelow}
+use Rattle.sets.proofs.TestLaws.{and-r, and-t, T→true, T→false, T-ext, eqb-same, and-true}
 use Rattle.sets.proofs.MemberLaws.{count-agree, members-count, members-agree}
 use Rattle.clashes.specs.Divisions.{groups}
 use Rattle.clashes.specs.Matrix.{matrix, Sound}
@@ -157,8 +157,9 @@ link-next new u left w next row b t h i x y = go (ℕ-discrete x w)
     go (yes e) = rw (e, getD-set-same new w row zero b, i y, h w, T→true (has left w) t, eqb-same w) (at-w (has (getD new w zero) y) (eqb u y))
     go (no q) = rw (getD-set-other new w x row zero q, h x, ne-eqb w x (λ e. q (sym e)), and-true (has left x))
 
-module _ (h r : Node) (u v : ℕ) (p : AtPair h u v) (near : ℕ) (linked : List ℕ) (joined : ℕ)
-    (long : length (h .rows) ≡ 64) (same : r .n ≡ h .n) (is-near : IsMeet (getD (h .rows) v zero) (h .live) near) (is-linked : Linked (h .rows) u near linked)
+module _ (h r : Node) (u v : ℕ) (p : AtPair h u v) (beside near : ℕ) (linked : List ℕ) (joined : ℕ)
+    (long : length (h .rows) ≡ 64) (same : r .n ≡ h .n) (is-beside : IsMeet (getD (h .rows) v zero) (h .live) beside)
+    (is-near : IsLess beside (getD (h .rows) u zero) near) (is-linked : Linked (h .rows) u near linked)
     (is-joined : IsJoin (getD (h .rows) u zero) (getD (h .rows) v zero) joined) (is-rows : r .rows ≡ set linked u joined)
     (is-names : Renamed (h .names) u v (r .names)) (is-live : IsWithout (h .live) v (r .live)) where
   abbrev row : ℕ → ℕ
@@ -198,10 +199,25 @@ module _ (h r : Node) (u v : ℕ) (p : AtPair h u v) (near : ℕ) (linked : List
       ap (λ (l : List ℕ). has (getD l u zero) y) is-rows
       ∙ ap (λ (m : ℕ). has m y) (getD-set-same linked u joined zero (omega (arith, is-linked .long, long, p .chosen .live-u .below, p .held .few))) ∙ is-joined y
 
+  -- who is in u's row already has u
+  absorb : (a b c e : Bool) → (T b → T c → T e → T a) → (a || ((b && not c) && e)) ≡ (a || (b && e))
+  absorb true b c e f = refl
+  absorb false false c e f = refl
+  absorb false true false e f = refl
+  absorb false true true false f = refl
+  absorb false true true true f = absurd (f tt tt tt)
+
   row-other : (x y : ℕ) → x ≢ u → has (getD (r .rows) x zero) y ≡ (has (row x) y || (has (h .live) x && has (row x) v && eqb y u))
   row-other x y q =
       ap (λ (l : List ℕ). has (getD l x zero) y) is-rows ∙ ap (λ (m : ℕ). has m y) (getD-set-other linked u x joined zero q) ∙ is-linked .is x y
-      ∙ ap₂ (λ (s t : Bool). has (row x) y || (s && t)) (is-near x ∙ turn x) (eqb-turn u y)
+      ∙ ap (λ (t : Bool). has (row x) y || (t && eqb u y)) (is-near x) ∙ absorb (has (row x) y) (has beside x) (has (row u) x) (eqb u y) already
+      ∙ ap₂ (λ (s t : Bool). has (row x) y || (s && t)) (is-beside x ∙ turn x) (eqb-turn u y)
+    where
+      already : T (has beside x) → T (has (row u) x) → T (eqb u y) → T (has (row x) y)
+      already b c e =
+          let lx = and-r (has (row v) x) (has (h .live) x) (subst T (is-beside x) b) in
+          let a = p .held .good .symm u x (and-t (has (h .live) u) (has (h .live) x && has (row u) x) (subst T (sym au) tt) (and-t (has (h .live) x) (has (row u) x) lx c)) in
+          subst (λ (z : ℕ). T (has (row x) z)) (eqb→eq u y e) (and-r (has (h .live) u) (has (row x) u) (and-r (has (h .live) x) (has (h .live) u && has (row x) u) a))
 
   live-is : (x : ℕ) → has (r .live) x ≡ (not (eqb x v) && has (h .live) x)
   live-is x = is-live x ∙ ap (λ (t : Bool). has (h .live) x && not t) (eqb-turn v x) ∙ swap (has (h .live) x) (not (eqb x v))

@@ -6,15 +6,15 @@ use mathlib.Core.List.{List, [], _++_, append-nil}
 use Prim.Native.Nat.{ℕ, zero, suc, _+_, _≤_, _<_}
 use native.Mathlib.Decide.{ℕ-discrete, decLt}
 use native.Mathlib.Omega.{arith}
-use lib.Dec.{T, eqb, ltb, ltb→lt, lt→ltb}
+use lib.Dec.{T, T-not, not-T, eqb, leb, ltb, ltb→lt, lt→ltb}
 use lib.ListN.{length, getD, set, replicate, length-replicate, getD-replicate, List·getD-eq-default}
 use lib.Seq.{getD-set-same, getD-set-other}
-use borrow.Author.Tests.{lt-ltb, le-ltb}
-use Rattle.sets.specs.Lists.{count, upto, keep, members, over}
+use borrow.Author.Tests.{ne-eqb, lt-ltb, le-ltb, le-leb, lt-leb}
+use Rattle.sets.specs.Lists.{bit, count, upto, keep, members, over}
 use Rattle.sets.specs.Set.{has, size, IsWithout, IsLowest}
-use Rattle.sets.proofs.TestLaws.{and-l, and-r, and-t, T-ext}
+use Rattle.sets.proofs.TestLaws.{and-l, and-r, and-t, and-true, T-ext}
 use Rattle.sets.proofs.ListLaws.{length-table}
-use Rattle.sets.proofs.MemberLaws.{members-count, members-none}
+use Rattle.sets.proofs.MemberLaws.{count-agree, count-out, members-count, members-none}
 use Rattle.sets.proofs.SetLaws.{has-none, size-without, members-cons}
 use Rattle.graphs.proofs.PairLaws.{of-ne, ne-of, count-length}
 
@@ -149,3 +149,56 @@ each-done f l i b z k = go (decLt k i)
 pub or-false : (b : Bool) → (b || false) ≡ b
 or-false true = refl
 or-false false = refl
+
+-- ---- a count over what is done of a set, where w is done next
+
+module _ (s left w next : ℕ) (f : ℕ → Bool) (i : (x : ℕ) → T (has left x) → T (has s x)) (l : IsLowest 64 left w) (out : IsWithout left w next) where
+  abbrev old : ℕ → Bool
+  old v = (has s v && not (has left v)) && f v
+
+  abbrev new : ℕ → Bool
+  new v = (has s v && not (has next v)) && f v
+
+  other : (j : ℕ) → j ≢ w → old j ≡ new j
+  other j d =
+      ap (λ (b : Bool). (has s j && not b) && f j)
+      (sym (out j ∙ ap (λ (b : Bool). has left j && not b) (ne-eqb w j (λ e. d (sym e))) ∙ and-true (has left j)))
+
+  pub count-next : count (λ v. (has s v && not (has left v)) && f v) (upto 64) + bit (f w) ≡ count (λ v. (has s v && not (has next v)) && f v) (upto 64)
+  count-next = go (f w) refl
+    where
+      go : (b : Bool) → f w ≡ b → count old (upto 64) + bit b ≡ count new (upto 64)
+      go true e =
+          let k = count-out 64 new old w (l .below)
+          (and-t (has s w && not (has next w)) (f w) (and-t (has s w) (not (has next w)) (i w (l .member)) (not-T (has next w) (λ t. of-ne w w (and-r (has left w) (not (eqb w w)) (subst T (out w) t)) refl))) (subst T (sym e) tt))
+          (λ t. T-not (has left w) (and-r (has s w) (not (has left w)) (and-l (has s w && not (has left w)) (f w) t)) (l .member)) other in
+          omega arith
+      go false e = let k = count-agree 64 old new (λ j b. at j (ℕ-discrete j w)) in omega arith
+        where
+          at : (j : ℕ) → Dec (j ≡ w) → old j ≡ new j
+          at j (yes q) = rw (q, e) (gone (has s w && not (has left w)) (has s w && not (has next w)))
+            where
+              gone : (a b : Bool) → (a && false) ≡ (b && false)
+              gone true true = refl
+              gone true false = refl
+              gone false true = refl
+              gone false false = refl
+          at j (no d) = other j d
+
+-- at least one more: so many already, or one fewer and this one
+pub leb-next : (j m : ℕ) (b : Bool) → (leb (suc j) m || (leb j m && b)) ≡ leb (suc j) (m + bit b)
+leb-next j m false = none (leb (suc j) m) (leb j m) ∙ ap (leb (suc j)) (let e : m ≡ m + 0 = omega arith in e)
+  where
+    none : (a b : Bool) → (a || (b && false)) ≡ a
+    none true b = refl
+    none false true = refl
+    none false false = refl
+leb-next j m true = go (decLt m j)
+  where
+    go : Dec (m < j) → (leb (suc j) m || (leb j m && true)) ≡ leb (suc j) (m + 1)
+    go (yes l) = rw (lt-leb (suc j) m (omega arith), lt-leb j m l) (sym (lt-leb (suc j) (m + 1) (omega arith)))
+    go (no l) = rw (le-leb j m (omega arith)) (all (leb (suc j) m) ∙ sym (le-leb (suc j) (m + 1) (omega arith)))
+      where
+        all : (a : Bool) → (a || (true && true)) ≡ true
+        all true = refl
+        all false = refl

@@ -15,8 +15,8 @@ ghost use Rattle.sets.specs.Lists.{members, over};
 ghost use Rattle.sets.specs.Set.{has as member};
 ghost use Rattle.clashes.specs.Matrix.{Sound};
 ghost use Rattle.graphs.specs.Graph.{to, merge, separate, pair, complete, grouping};
-ghost use Rattle.graphs.specs.Held.{Held, view, choiceOf};
-ghost use Rattle.graphs.specs.Acts.{IsRoot, AtPair, Becomes, Linked, Renamed, lead, shared};
+ghost use Rattle.graphs.specs.Held.{Held, view, choiceOf, Holds, Each};
+ghost use Rattle.graphs.specs.Acts.{IsRoot, AtPair, Becomes, Linked, Renamed, lead, shared, Mutual, Counted, Hopeful};
 
 // How many entries there are, the live vertices, a row of neighbours for each, and which live vertex stands for each entry.
 pub struct Node {
@@ -37,6 +37,14 @@ pub struct Lead {
     pub size: usize,
     pub u: usize,
     pub v: usize,
+}
+
+// Sets of vertices that at least one, two, three and four rows have.
+struct Holders {
+    pub one: u64,
+    pub two: u64,
+    pub three: u64,
+    pub four: u64,
 }
 
 // The node of a list: every entry stands for itself.
@@ -101,33 +109,32 @@ fn rename(names: &mut [u8; 64], u: u8, v: u8)
     }
 }
 
-// v leaves, the row of u is the two rows joined, neighbours of v become neighbours of u.
-pub fn merged(h: Node, u: usize, v: usize) -> Node
+// v leaves, the row of u is the two rows joined, neighbours of v become neighbours of u: those of both are already.
+pub fn merged(mut h: Node, u: usize, v: usize) -> Node
     requires { ⌜ AtPair h u v ⌝ }
     ensures { λ r. ⌜ Becomes h r (merge u v (view h)) ⌝ }
 {
-    let mut r = h;
-    let near = meet(r.rows[v], r.live);
-    let row = join(r.rows[u], r.rows[v]);
-    link(&mut r.rows, u, near);
-    r.rows[u] = row;
-    rename(&mut r.names, u as u8, v as u8);
-    let live = without(r.live, v);
-    r.live = live;
-    r
+    let beside = meet(h.rows[v], h.live);
+    let near = less(beside, h.rows[u]);
+    let row = join(h.rows[u], h.rows[v]);
+    link(&mut h.rows, u, near);
+    h.rows[u] = row;
+    rename(&mut h.names, u as u8, v as u8);
+    let live = without(h.live, v);
+    h.live = live;
+    h
 }
 
 // u and v become adjacent.
-pub fn separated(h: Node, u: usize, v: usize) -> Node
+pub fn separated(mut h: Node, u: usize, v: usize) -> Node
     requires { ⌜ AtPair h u v ⌝ }
     ensures { λ r. ⌜ Becomes h r (separate u v (view h)) ⌝ }
 {
-    let mut r = h;
-    let ru = with(r.rows[u], v);
-    let rv = with(r.rows[v], u);
-    r.rows[u] = ru;
-    r.rows[v] = rv;
-    r
+    let ru = with(h.rows[u], v);
+    let rv = with(h.rows[v], u);
+    h.rows[u] = ru;
+    h.rows[v] = rv;
+    h
 }
 
 // Are every two live vertices adjacent?
@@ -147,15 +154,67 @@ pub fn is_complete(h: Node) -> bool
     true
 }
 
+// Which vertices one, two, three and four rows of near's members have.
+fn tally(rows: &[u64; 64], near: u64) -> Holders
+    ensures { λ r. ⌜ Counted (now (rows .entry)) near r ⌝ }
+{
+    let mut one: u64 = 0;
+    let mut two: u64 = 0;
+    let mut three: u64 = 0;
+    let mut four: u64 = 0;
+    let mut left = near;
+    while left != 0 {
+        let w = lowest(left);
+        let row = rows[w];
+        four = join(four, meet(three, row));
+        three = join(three, meet(two, row));
+        two = join(two, meet(one, row));
+        one = join(one, row);
+        left = without(left, w);
+    }
+    Holders {
+        one: one,
+        two: two,
+        three: three,
+        four: four,
+    }
+}
+
+// Of apart all that share as many neighbours with near as are needed, and perhaps others: where near is not small beside apart, a tally costs more
+// than it spares.
+fn hopeful(rows: &[u64; 64], near: u64, apart: u64, need: usize) -> u64
+    requires { ⌜ Mutual (now rows) near apart ⌝ }
+    ensures { λ r. ⌜ Hopeful (now (rows .entry)) near apart need r ⌝ }
+{
+    if need == 0 {
+        return apart;
+    }
+    if size(apart) / 3 < size(near) {
+        return apart;
+    }
+    let h = tally(rows, near);
+    if need == 1 {
+        return meet(apart, h.one);
+    }
+    if need == 2 {
+        return meet(apart, h.two);
+    }
+    if need == 3 {
+        return meet(apart, h.three);
+    }
+    meet(apart, h.four)
+}
+
 // The leading pair after u with each vertex of apart: near are u's neighbours. None of them leads where near is too small.
 fn led(rows: &[u64; 64], u: usize, near: u64, apart: u64, best: Lead) -> Lead
+    requires { ⌜ Mutual (now rows) near apart ⌝ }
     ensures { λ r. ⌜ r ≡ over (lead (shared (now (rows .entry)) near) u) best (members (member apart) 64) ⌝ }
 {
     if size(near) < best.size {
         return best;
     }
+    let mut left = hopeful(rows, near, apart, best.size);
     let mut best = best;
-    let mut left = apart;
     while left != 0 {
         let v = lowest(left);
         left = without(left, v);
@@ -172,11 +231,10 @@ fn led(rows: &[u64; 64], u: usize, near: u64, apart: u64, best: Lead) -> Lead
 }
 
 // Of the non-adjacent live u < v the pair with most common neighbours, then smallest u, then smallest v.
-pub fn choose(h: Node) -> Choice
-    requires { ⌜ Held h ⌝ }
-    ensures { λ r. ⌜ choiceOf r ≡ pair (h .n) (view h) ⌝ }
+pub fn choose_among(live: u64, rows: &[u64; 64]) -> Choice
+    requires { ⌜ Holds live (now rows) ⌝ }
+    ensures { λ r. ⌜ Each live (now (rows .entry)) (λ h. choiceOf r ≡ pair (h .n) (view h)) ⌝ }
 {
-    let live = h.live;
     let mut best = Lead {
         size: 0,
         u: 0,
@@ -186,14 +244,22 @@ pub fn choose(h: Node) -> Choice
     while left != 0 {
         let u = lowest(left);
         left = without(left, u);
-        let near = meet(h.rows[u], live);
+        let near = meet(rows[u], live);
         let apart = less(left, near);
-        best = led(&h.rows, u, near, apart, best);
+        best = led(rows, u, near, apart, best);
     }
     if best.size == 0 {
         return Choice::Complete;
     }
     Choice::Split(best.u, best.v)
+}
+
+// The same of a node.
+pub fn choose(h: Node) -> Choice
+    requires { ⌜ Held h ⌝ }
+    ensures { λ r. ⌜ choiceOf r ≡ pair (h .n) (view h) ⌝ }
+{
+    choose_among(h.live, &h.rows)
 }
 
 // The groups, numbered from 0 by smallest member: who stands for itself opens the next number, any other takes its name's.

@@ -9,24 +9,24 @@ use native.Mathlib.Decide.{ℕ-discrete, decLt}
 use native.Mathlib.Omega.{arith}
 use lib.Dec.{T, eqb, leb, leb→le, le→leb}
 use lib.ListN.{length, getD}
-use borrow.Author.Tests.{ne-eqb, le-leb, lt-leb}
+use borrow.Author.Tests.{le-leb, lt-leb}
 use Rattle.sets.specs.Lists.{In, NoDup, bit, count, all, any, upto, members}
 use Rattle.sets.specs.Set.{has, IsWithout, IsMeet, IsJoin, IsLess, IsLowest}
-use Rattle.sets.proofs.TestLaws.{and-l, and-r, and-t, or-r, not-t, t-not, T?, T→true, T→false, T-ext, eqb-of, all-get, all-make, any-get}
+use Rattle.sets.proofs.TestLaws.{and-l, and-r, and-t, not-t, t-not, T?, T-ext, all-get, all-make, any-get}
 use Rattle.sets.proofs.ListLaws.{noDup-le}
-use Rattle.sets.proofs.MemberLaws.{count-agree, count-out, members-count, members-none, In-members, members-In}
+use Rattle.sets.proofs.MemberLaws.{members-count, members-none, In-members, members-In}
 use Rattle.sets.proofs.SetLaws.{has-none}
 use Rattle.graphs.specs.Graph.{Graph, live}
 use Rattle.graphs.specs.Held.{view, Held}
 use Rattle.graphs.specs.declared.Node.{Node}
 use Rattle.graphs.proofs.PairLaws.{members-noDup, of-ne, ne-of}
-use Rattle.graphs.proofs.LoopLaws.{or-false}
+use Rattle.graphs.proofs.LoopLaws.{count-next, leb-next}
 use Rattle.cliques.specs.Growth.{Within}
 use Rattle.cliques.proofs.WordLaws.{near-row}
 use Rattle.mycielski.specs.Rounds.{Part, whole, ofS, offers, ofW}
 use Rattle.mycielski.specs.Words.{misses, Lacks, Outside}
 use Rattle.mycielski.specs.declared.Lack.{Lack}
-use Rattle.mycielski.proofs.DoneLaws.{imp-get, imp-make, done, done-none, done-all, within-again, done-more}
+use Rattle.mycielski.proofs.DoneLaws.{imp-get, imp-make, done, done-none, done-all, within-again}
 use Rattle.mycielski.proofs.SetLoops.{live-below}
 use Rattle.mycielski.proofs.WitnessLoops.{live-among}
 
@@ -38,25 +38,6 @@ count-atleast p ks d f = le-trans (noDup-le ks (members p 64) d (λ x i. members
 count-atmost : (p : ℕ → Bool) (ks : List ℕ) → ((x : ℕ) → x < 64 → T (p x) → In x ks) → count p (upto 64) ≤ length ks
 count-atmost p ks f =
     le-trans (le-of-eq (sym (members-count p 64))) (noDup-le (members p 64) ks (members-noDup p 64) (λ x i. f x (In-members p 64 x i .0) (In-members p 64 x i .1)))
-
--- ---- one more that may be lacked
-
-leb-one : (m : ℕ) (b : Bool) → (leb 1 m || b) ≡ leb 1 (m + bit b)
-leb-one m true = T→true (leb 1 m || true) (or-r (leb 1 m) true tt) ∙ sym (le-leb 1 (m + 1) (omega arith))
-leb-one m false = or-false (leb 1 m) ∙ ap (leb 1) (let e : m ≡ m + 0 = omega arith in e)
-
-leb-two : (m : ℕ) (b : Bool) → (leb 2 m || (leb 1 m && b)) ≡ leb 2 (m + bit b)
-leb-two m false = right (leb 2 m) (leb 1 m) ∙ ap (leb 2) (let e : m ≡ m + 0 = omega arith in e)
-  where
-    right : (a b : Bool) → (a || (b && false)) ≡ a
-    right true b = refl
-    right false true = refl
-    right false false = refl
-leb-two m true = go (decLt m 1)
-  where
-    go : Dec (m < 1) → (leb 2 m || (leb 1 m && true)) ≡ leb 2 (m + 1)
-    go (yes l) = rw (lt-leb 2 m (omega arith), lt-leb 1 m l) (sym (lt-leb 2 (m + 1) (omega arith)))
-    go (no l) = T→true (leb 2 m || (leb 1 m && true)) (or-r (leb 2 m) (leb 1 m && true) (and-t (leb 1 m) true (le→leb 1 m (omega arith)) tt)) ∙ sym (le-leb 2 (m + 1) (omega arith))
 
 -- ---- the loop that tells who lacks a member, and who two
 
@@ -91,33 +72,7 @@ module _ (live : ℕ) (rows : List ℕ) (c : ℕ) where
   module _ (once twice left v away both twice′ once′ left′ : ℕ) (i : Lacking once twice left) (w : IsLowest 64 left v) (wa : IsLess live (getD rows v zero) away)
       (wb : IsMeet once away both) (wt : IsJoin twice both twice′) (wo : IsJoin once away once′) (o : IsWithout left v left′) where
     more : (x : ℕ) → count (lacked left x) (upto 64) + bit (not (has (getD rows v zero) x)) ≡ count (lacked left′ x) (upto 64)
-    more x = go (not (has (getD rows v zero) x)) refl
-      where
-        done′ : (j : ℕ) → done c left′ j ≡ (done c left j || eqb v j)
-        done′ = done-more c left v left′ (i .within) w o
-
-        other : (j : ℕ) → j ≢ v → lacked left x j ≡ lacked left′ x j
-        other j d =
-            ap (λ (b : Bool). b && not (has (getD rows j zero) x))
-            (sym (done′ j ∙ ap (λ (b : Bool). done c left j || b) (ne-eqb v j (λ e. d (sym e))) ∙ or-false (done c left j)))
-
-        go : (b : Bool) → not (has (getD rows v zero) x) ≡ b → count (lacked left x) (upto 64) + bit b ≡ count (lacked left′ x) (upto 64)
-        go true e =
-            let s = count-out 64 (lacked left′ x) (lacked left x) v (w .below)
-            (and-t (done c left′ v) (not (has (getD rows v zero) x)) (subst T (sym (done′ v)) (or-r (done c left v) (eqb v v) (eqb-of v v refl))) (subst T (sym e) tt))
-            (λ t. t-not (has left v) (and-r (has c v) (not (has left v)) (and-l (done c left v) (not (has (getD rows v zero) x)) t)) (w .member)) other in
-            omega arith
-        go false e = let s = count-agree 64 (lacked left x) (lacked left′ x) (λ j b. at j (ℕ-discrete j v)) in omega arith
-          where
-            at : (j : ℕ) → Dec (j ≡ v) → lacked left x j ≡ lacked left′ x j
-            at j (yes q) = rw (q, e) (gone (done c left v) (done c left′ v))
-              where
-                gone : (a b : Bool) → (a && false) ≡ (b && false)
-                gone true true = refl
-                gone true false = refl
-                gone false true = refl
-                gone false false = refl
-            at j (no d) = other j d
+    more x = count-next c left v left′ (λ y. not (has (getD rows y zero) x)) (i .within) w o
 
     pub lacking-again : Lacking once′ twice′ left′
     lacking-again = record {
@@ -125,14 +80,16 @@ module _ (live : ℕ) (rows : List ℕ) (c : ℕ) where
       ones = λ x.
           wo x ∙ ap₂ (λ (a b : Bool). a || b) (i .ones x) (wa x)
           ∙ one (has live x) (leb 1 (count (lacked left x) (upto 64))) (not (has (getD rows v zero) x))
-          ∙ ap (λ (b : Bool). has live x && b) (leb-one (count (lacked left x) (upto 64)) (not (has (getD rows v zero) x)) ∙ ap (leb 1) (more x));
+          ∙ ap (λ (b : Bool). has live x && b)
+          (ap (λ (b : Bool). leb 1 (count (lacked left x) (upto 64)) || (b && not (has (getD rows v zero) x))) (sym (le-leb 0 (count (lacked left x) (upto 64)) (omega arith)))
+          ∙ leb-next 0 (count (lacked left x) (upto 64)) (not (has (getD rows v zero) x)) ∙ ap (leb 1) (more x));
       twos = λ x.
           wt x ∙ ap₂ (λ (a b : Bool). a || b) (i .twos x) (wb x ∙ ap₂ (λ (a b : Bool). a && b) (i .ones x) (wa x))
           ∙ two (has live x) (leb 2 (count (lacked left x) (upto 64))) (leb 1 (count (lacked left x) (upto 64))) (not (has (getD rows v zero) x))
-          ∙ ap (λ (b : Bool). has live x && b) (leb-two (count (lacked left x) (upto 64)) (not (has (getD rows v zero) x)) ∙ ap (leb 2) (more x));
+          ∙ ap (λ (b : Bool). has live x && b) (leb-next 1 (count (lacked left x) (upto 64)) (not (has (getD rows v zero) x)) ∙ ap (leb 2) (more x));
     }
       where
-        one : (l a b : Bool) → ((l && a) || (l && b)) ≡ (l && (a || b))
+        one : (l a b : Bool) → ((l && a) || (l && b)) ≡ (l && (a || (true && b)))
         one true a b = refl
         one false a b = refl
 

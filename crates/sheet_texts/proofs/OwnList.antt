@@ -119,6 +119,9 @@ module _ (text lent : List ℕ) (n : ℕ) (rows : List ℕ) (x : ReadPromise tex
       ap (take n) w ∙ take-at (take n g) (drop n lent) n (length-take-le n g (omega (arith, read-size text (length lent), small)))
       ∙ ap (λ (f : Found). take n (f .rows)) (sym (same-read text (length lent) n answer-is))
 
+  pub rows-count : length (take n rows) ≡ n
+  rows-count = ap length rows-are ∙ length-take-le n (readOf text 64 .rows) (omega (arith, read-size text 64, small))
+
   same-clash : (a b : ℕ) → a < n → matrix (take n rows) a b ≡ matrix (readOf text 64 .rows) a b
   same-clash a b h = ap (λ (r : List ℕ). matrix r a b) rows-are ∙ ap (λ (r : ℕ). has r b) (getD-take n (readOf text 64 .rows) a 0 h)
 

@@ -1,2 +1,3 @@
--- Each promise leaves one answer.
+-- Each promise leaves one answer; and what a walk answers, written and checked, is accepted.
 pub mod Unique
+pub mod OwnList

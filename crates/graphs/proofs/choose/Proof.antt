@@ -1,78 +1,13 @@
--- `graphs::choose` meets its contract: what leads, and the rows that are left, give what all rows give. Assumes nothing.
-use Rattle.sets.specs.Set.{size}
-use Rattle.graphs.proofs.LoopLaws.{left-falls}
-use Rattle.graphs.proofs.ChooseLaws.{Scanned, scanned-none, scanned-next, scanned-all, leads-none, leads-some, sharing}
+-- `graphs::choose` meets its contract. Assumes nothing.
 use borrow.Author.Needs.{needs}
 use Rattle.graphs.proofs.choose.Statement.{statement}
 use Rattle.graphs.proofs.choose.Tie as tie
 
-abbrev Inv-loop : tie.InvT-loop
-Inv-loop h live best₀ left₀ best left = Scanned (h .rows) live best left
+choose-among-requires : tie.Need-choose-among-requires
+choose-among-requires c κs = (c .before .before .args .t1, c .before .before .pre)
 
-abbrev μ-loop : tie.MeasureT-loop
-μ-loop h live best₀ left₀ best left = size 64 left
-
-loop-holds : tie.Need-loop-holds Inv-loop μ-loop
-loop-holds c = scanned-none (c .args .t1 .rows) (c .args .t1 .live)
-
-lowest-requires : tie.Need-lowest-requires Inv-loop μ-loop
-lowest-requires c κs = search needs
-
-without-requires : tie.Need-without-requires Inv-loop μ-loop
-without-requires c κs = search needs
-
-mul-meet : tie.Need-mul-meet Inv-loop μ-loop
-mul-meet c = search needs
-
-element-copy-out-meet : tie.Need-element-copy-out-meet Inv-loop μ-loop
-element-copy-out-meet c = search needs
-
-meet-requires : tie.Need-meet-requires Inv-loop μ-loop
-meet-requires c κs = search needs
-
-less-requires : tie.Need-less-requires Inv-loop μ-loop
-less-requires c κs = search needs
-
-led-requires : tie.Need-led-requires Inv-loop μ-loop
-led-requires c κs = search needs
-
-loop-less : tie.Need-loop-less Inv-loop μ-loop
-loop-less c = left-falls _ _ _ (c .before .before .before .before .before .before .before .lowest .ensures) (c .before .before .before .before .before .before .without .ensures)
-
-loop-again : tie.Need-loop-again Inv-loop μ-loop
-loop-again c =
-    let h = c .before .before .before .before .before .before .before .before .before .before .args .t1 in
-    let l = c .before .before .before .before .before .before .before .before .before .loop in
-    scanned-next (h .rows) (h .live) (l .best) (l .left) (c .before .before .before .before .before .before .before .lowest .result) (c .before .before .before .before .before .before .without .result) (c .before .before .before .before .meet .result) (c .before .before .before .less .result) (l .inv) (c .before .before .before .before .before .before .before .lowest .ensures)
-    (c .before .before .before .before .before .before .without .ensures) (c .before .before .before .before .meet .ensures) (c .before .before .before .less .ensures) (c .led .result) (c .led .ensures)
-
-returns : tie.Need-returns Inv-loop μ-loop
-returns c =
-    let a = c .before .before .before .before in
-    let l = c .before .before .before .loop in
-    leads-none (sharing (a .args .t1 .rows) (a .args .t1 .live)) (l .best) _ (scanned-all (a .args .t1) (a .pre) (l .best) (l .left) (c .before .before .loop-test .left) (l .inv)) (c .if1 .taken)
-
-returns-2 : tie.Need-returns-2 Inv-loop μ-loop
-returns-2 c =
-    let a = c .before .before .before .before in
-    let l = c .before .before .before .loop in
-    leads-some (sharing (a .args .t1 .rows) (a .args .t1 .live)) (l .best) _ (scanned-all (a .args .t1) (a .pre) (l .best) (l .left) (c .before .before .loop-test .left) (l .inv)) (c .if1 .left)
+returns : tie.Need-returns
+returns c = c .choose-among .ensures (c .before .before .before .args .t1) (c .before .before .before .pre)
 
 pub choose-spec : {M : Type 1} → statement M
-choose-spec =
-    tie.close
-    (tie.spec
-    Inv-loop
-    μ-loop
-    loop-holds
-    lowest-requires
-    without-requires
-    mul-meet
-    element-copy-out-meet
-    meet-requires
-    less-requires
-    led-requires
-    loop-less
-    loop-again
-    returns
-    returns-2)
+choose-spec = tie.close (tie.spec choose-among-requires returns)

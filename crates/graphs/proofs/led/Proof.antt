@@ -1,20 +1,21 @@
 -- `graphs::led` meets its contract: what leads, and the vertices that are left, give what all give. Assumes nothing.
 use mathlib.Core.Path.{_≡_, sym, _∙_}
+use native.Mathlib.Nat.{le-refl}
 use native.Mathlib.Omega.{arith}
 use Rattle.sets.specs.Lists.{members, over}
 use Rattle.sets.specs.Set.{has, size}
 use Rattle.graphs.specs.Acts.{lead, shared}
 use Rattle.graphs.proofs.LoopLaws.{size-le, left-falls, over-next, over-none}
-use Rattle.graphs.proofs.ChooseLaws.{lead-taken, lead-kept, lead-none}
+use Rattle.graphs.proofs.ChooseLaws.{lead-taken, lead-kept, lead-none, lead-narrow}
 use borrow.Author.Needs.{needs}
 use Rattle.graphs.proofs.led.Statement.{statement}
 use Rattle.graphs.proofs.led.Tie as tie
 
 abbrev Inv-loop : tie.InvT-loop
-Inv-loop rows u near apart best₀ left₀ best left = over (lead (shared rows near) u) best (members (has left) 64) ≡ over (lead (shared rows near) u) best₀ (members (has apart) 64)
+Inv-loop rows u near apart left₀ best₀ left best = over (lead (shared rows near) u) best (members (has left) 64) ≡ over (lead (shared rows near) u) best₀ (members (has apart) 64)
 
 abbrev μ-loop : tie.MeasureT-loop
-μ-loop rows u near apart best₀ left₀ best left = size 64 left
+μ-loop rows u near apart left₀ best₀ left best = size 64 left
 
 size-requires : tie.Need-size-requires Inv-loop μ-loop
 size-requires c κs = search needs
@@ -24,8 +25,14 @@ returns c =
     let a = c .before .before .before .args in
     sym (lead-none (a .rows .now) (a .near) (a .u) (a .best) (members (has (a .apart)) 64) (omega (arith, c .if1 .taken, c .before .before .size .ensures)))
 
+hopeful-requires : tie.Need-hopeful-requires Inv-loop μ-loop
+hopeful-requires c κs = c .before .before .before .pre
+
 loop-holds : tie.Need-loop-holds Inv-loop μ-loop
-loop-holds c = search needs
+loop-holds c =
+    let a = c .before .before .before .before .args in
+    lead-narrow (shared (a .rows .now) (a .near)) (a .u) (has (a .apart)) (has (c .hopeful .result)) (a .best .size) (c .hopeful .ensures .within) (c .hopeful .ensures .rest) 64 (a .best)
+    (le-refl (a .best .size)) .0
 
 lowest-requires : tie.Need-lowest-requires Inv-loop μ-loop
 lowest-requires c κs = search needs
@@ -53,7 +60,7 @@ loop-less c = left-falls _ _ _ (c .before .before .before .before .before .befor
 
 loop-again : tie.Need-loop-again Inv-loop μ-loop
 loop-again c =
-    let a = c .before .before .before .before .before .before .before .before .before .before .before .before .args in
+    let a = c .before .before .before .before .before .before .before .before .before .before .before .before .before .args in
     let l = c .before .before .before .before .before .before .before .before .loop in
     let v = c .before .before .before .before .before .before .lowest in
     over-next (lead (shared (a .rows .now) (a .near)) (a .u)) (l .best) _ (l .left) (v .result) (c .before .before .before .before .before .without .result) (v .ensures) (c .before .before .before .before .before .without .ensures)
@@ -65,7 +72,7 @@ loop-less-2 c = left-falls _ _ _ (c .before .before .before .before .before .bef
 
 loop-again-2 : tie.Need-loop-again-2 Inv-loop μ-loop
 loop-again-2 c =
-    let a = c .before .before .before .before .before .before .before .before .before .before .before .before .args in
+    let a = c .before .before .before .before .before .before .before .before .before .before .before .before .before .args in
     let l = c .before .before .before .before .before .before .before .before .loop in
     let v = c .before .before .before .before .before .before .lowest in
     over-next (lead (shared (a .rows .now) (a .near)) (a .u)) (l .best) _ (l .left) (v .result) (c .before .before .before .before .before .without .result) (v .ensures) (c .before .before .before .before .before .without .ensures)
@@ -74,7 +81,7 @@ loop-again-2 c =
 
 returns-2 : tie.Need-returns-2 Inv-loop μ-loop
 returns-2 c =
-    let a = c .before .before .before .before .before .args in
+    let a = c .before .before .before .before .before .before .args in
     sym (over-none (lead (shared (a .rows .now) (a .near)) (a .u)) (c .before .loop .best) (c .before .loop .left) (c .loop-test .left)) ∙ c .before .loop .inv
 
 pub led-spec : {M : Type 1} → statement M
@@ -85,6 +92,7 @@ led-spec =
     μ-loop
     size-requires
     returns
+    hopeful-requires
     loop-holds
     lowest-requires
     without-requires

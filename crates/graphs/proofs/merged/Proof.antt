@@ -14,6 +14,15 @@ element-copy-out-meet c = search needs
 meet-requires : tie.Need-meet-requires
 meet-requires c κs = search needs
 
+mul-less : tie.Need-mul-less
+mul-less c = search needs
+
+element-copy-out-less : tie.Need-element-copy-out-less
+element-copy-out-less c = search needs
+
+less-requires : tie.Need-less-requires
+less-requires c κs = search needs
+
 mul-join : tie.Need-mul-join
 mul-join c = search needs
 
@@ -32,11 +41,11 @@ join-requires c κs = search needs
 link-requires : tie.Need-link-requires
 link-requires c κs = search needs
 
-mul-r : tie.Need-mul-r
-mul-r c = search needs
+mul-h : tie.Need-mul-h
+mul-h c = search needs
 
-element-write-r : tie.Need-element-write-r
-element-write-r c = search needs
+element-write-h : tie.Need-element-write-h
+element-write-h c = search needs
 
 cast-rename : tie.Need-cast-rename
 cast-rename c = search needs
@@ -52,9 +61,9 @@ without-requires c κs = search needs
 
 returns : tie.Need-returns
 returns c =
-    let a = c .before .before .before .before .before .before .before .before .before .before in
-    merged-is (a .args .h) _ (a .args .u) (a .args .v) (a .pre) (c .before .before .before .before .before .before .before .before .meet .result) _ (c .before .before .before .before .before .join .result)
-    (search needs) refl (c .before .before .before .before .before .before .before .before .meet .ensures) (c .before .before .before .link .ensures) (c .before .before .before .before .before .join .ensures) refl (c .before .rename .ensures) (c .without .ensures)
+    let a = c .before .before .before .before .before .before .before .before .before .before .before .before in
+    merged-is (a .args .t1) _ (a .args .u) (a .args .v) (a .pre) (c .before .before .before .before .before .before .before .before .before .before .meet .result) (c .before .before .before .before .before .before .before .before .less .result) _ (c .before .before .before .before .before .join .result)
+    (search needs) refl (c .before .before .before .before .before .before .before .before .before .before .meet .ensures) (c .before .before .before .before .before .before .before .before .less .ensures) (c .before .before .before .link .ensures) (c .before .before .before .before .before .join .ensures) refl (c .before .rename .ensures) (c .without .ensures)
 
 pub merged-spec : {M : Type 1} → statement M
 merged-spec =
@@ -63,14 +72,17 @@ merged-spec =
     mul-meet
     element-copy-out-meet
     meet-requires
+    mul-less
+    element-copy-out-less
+    less-requires
     mul-join
     element-copy-out-join
     mul-join-2
     element-copy-out-join-2
     join-requires
     link-requires
-    mul-r
-    element-write-r
+    mul-h
+    element-write-h
     cast-rename
     cast-rename-2
     rename-requires

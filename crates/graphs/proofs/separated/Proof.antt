@@ -23,22 +23,22 @@ element-copy-out-with-2 c = search needs
 with-requires-2 : tie.Need-with-requires-2
 with-requires-2 c κs = search needs
 
-mul-r : tie.Need-mul-r
-mul-r c = search needs
+mul-h : tie.Need-mul-h
+mul-h c = search needs
 
-element-write-r : tie.Need-element-write-r
-element-write-r c = search needs
+element-write-h : tie.Need-element-write-h
+element-write-h c = search needs
 
-mul-r-2 : tie.Need-mul-r-2
-mul-r-2 c = search needs
+mul-h-2 : tie.Need-mul-h-2
+mul-h-2 c = search needs
 
-element-write-r-2 : tie.Need-element-write-r-2
-element-write-r-2 c = search needs
+element-write-h-2 : tie.Need-element-write-h-2
+element-write-h-2 c = search needs
 
 returns : tie.Need-returns
 returns c =
     let a = c .before .before .before .before in
-    separated-is (a .args .h) _ (a .args .u) (a .args .v) (a .pre) (c .before .before .with .result) (c .with2 .result) (search needs) refl
+    separated-is (a .args .t1) _ (a .args .u) (a .args .v) (a .pre) (c .before .before .with .result) (c .with2 .result) (search needs) refl
     (c .before .before .with .ensures) (c .with2 .ensures) refl refl refl
 
 pub separated-spec : {M : Type 1} → statement M
@@ -51,8 +51,8 @@ separated-spec =
     mul-with-2
     element-copy-out-with-2
     with-requires-2
-    mul-r
-    element-write-r
-    mul-r-2
-    element-write-r-2
+    mul-h
+    element-write-h
+    mul-h-2
+    element-write-h-2
     returns)
