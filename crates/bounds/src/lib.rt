@@ -4,11 +4,12 @@ use clashes::validity;
 use cliques::clique;
 use graphs::Node;
 use graphs::root;
+use mycielski::bound_among;
 use mycielski::bound_up_to;
 use sets::size;
 ghost use mathlib.Core.Path.{_≡_};
 ghost use lib.Dec.{leb};
-ghost use Rattle.graphs.specs.Held.{view, Held};
+ghost use Rattle.graphs.specs.Held.{view, Held, Holds, Each};
 ghost use Rattle.bounds.specs.Names.{cliqueBound, mycielskian};
 ghost use Rattle.bounds.specs.Lent.{Answers};
 
@@ -37,15 +38,15 @@ pub fn mycielskian_at(h: Node) -> usize
     bound_up_to(h, 65)
 }
 
-// Is the Mycielskian bound of a node not below `best`? It ends as soon as that is known: a node with fewer vertices than `best` needs no clique.
-pub fn reaches(h: Node, best: usize) -> bool
-    requires { ⌜ Held h ⌝ }
-    ensures { λ r. ⌜ r ≡ leb best (mycielskian (h .n) (view h)) ⌝ }
+// Is the Mycielskian bound of lent rows not below `best`? It ends as soon as that is known: fewer live vertices than `best` need no clique.
+pub fn reaches(live: u64, rows: &[u64; 64], best: usize) -> bool
+    requires { ⌜ Holds live (now rows) ⌝ }
+    ensures { λ r. ⌜ Each live (now (rows .entry)) (λ h. r ≡ leb best (mycielskian (h .n) (view h))) ⌝ }
 {
-    if size(h.live) < best {
+    if size(live) < best {
         return false;
     }
-    best <= bound_up_to(h, best)
+    best <= bound_among(live, rows, best)
 }
 
 // The clique bound of a lent matrix.

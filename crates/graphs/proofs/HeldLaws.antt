@@ -8,7 +8,7 @@ use Prim.Native.Nat.{ℕ, zero, suc, _≤_, _<_}
 use native.Mathlib.Decide.{ℕ-discrete}
 use native.Mathlib.Omega.{arith}
 use lib.Dec.{T, eqb, ltb, eqb→eq, ltb→lt}
-use lib.ListN.{length, getD, set}
+use lib.ListN.{length, getD, set, length-set}
 use lib.Seq.{getD-set-same, getD-set-other, lt-length-set}
 use borrow.Author.Tests.{eq-eqb, ne-eqb, lt-ltb}
 use Rattle.sets.specs.Lists.{count, upto, members}
@@ -39,8 +39,10 @@ eqb-turn m k = go (ℕ-discrete m k)
     go (no q) = ne-eqb m k q ∙ sym (ne-eqb k m (λ e. q (sym e)))
 
 -- a node that holds a good graph, and whose live set is that graph's
-holds : (r : Node) (n : ℕ) (g : Graph) → r .n ≡ n → n ≤ 64 → view r ≡ g → Good n g → ((x : ℕ) → has (r .live) x ≡ live n g x) → Held r
-holds r n g e few is good lives = record {
+holds : (r : Node) (n : ℕ) (g : Graph) → length (r .rows) ≡ 64 → length (r .names) ≡ 64 → r .n ≡ n → n ≤ 64 → view r ≡ g → Good n g → ((x : ℕ) → has (r .live) x ≡ live n g x) → Held r
+holds r n g rows-long names-long e few is good lives = record {
+  rows-long = rows-long;
+  names-long = names-long;
   few = subst (λ (k : ℕ). k ≤ 64) (sym e) few;
   lives = λ x. lives x ∙ sym (ap₂ (λ (k : ℕ) (w : Graph). live k w x) e is);
   good = subst (λ (w : Graph). Good (r .n) w) (sym is) (subst (λ (k : ℕ). Good k g) (sym e) good);
@@ -115,7 +117,7 @@ module _ (h r : Node) (u v : ℕ) (p : AtPair h u v) where
 
 module _ (rows : List ℕ) (r : Node) (s : Sound rows) (e : r .n ≡ length rows) (below : IsBelow (length rows) (r .live))
     (held : (x : ℕ) → getD (r .rows) x zero ≡ cond (ltb x (length rows)) (getD rows x zero) zero)
-    (names : (i : ℕ) → getD (r .names) i zero ≡ cond (ltb i (length rows)) i zero) where
+    (names : (i : ℕ) → getD (r .names) i zero ≡ cond (ltb i (length rows)) i zero) (rows-long : length (r .rows) ≡ 64) (names-long : length (r .names) ≡ 64) where
   root-adj : (x y : ℕ) → view r .adj x y ≡ graph (length rows) (matrix rows) .adj x y
   root-adj x y = ap₂ (λ (a b : Bool). a && (b && has (getD (r .rows) x zero) y)) (below x) (below y) ∙ ap (λ (m : ℕ). ltb x (length rows) && (ltb y (length rows) && has m y)) (held x) ∙ go (ltb x (length rows))
     where
@@ -124,7 +126,7 @@ module _ (rows : List ℕ) (r : Node) (s : Sound rows) (e : r .n ≡ length rows
       go false = refl
 
   pub root-is : IsRoot rows r
-  root-is = record { held = holds r (length rows) G e (s .apart .inside .few) is (good-graph (length rows) (matrix rows) (sound-valid rows s)) lives; same = e; is = is }
+  root-is = record { held = holds r (length rows) G rows-long names-long e (s .apart .inside .few) is (good-graph (length rows) (matrix rows) (sound-valid rows s)) lives; same = e; is = is }
     where
       G : Graph
       G = graph (length rows) (matrix rows)
@@ -158,7 +160,7 @@ link-next new u left w next row b t h i x y = go (ℕ-discrete x w)
     go (no q) = rw (getD-set-other new w x row zero q, h x, ne-eqb w x (λ e. q (sym e)), and-true (has left x))
 
 module _ (h r : Node) (u v : ℕ) (p : AtPair h u v) (beside near : ℕ) (linked : List ℕ) (joined : ℕ)
-    (long : length (h .rows) ≡ 64) (same : r .n ≡ h .n) (is-beside : IsMeet (getD (h .rows) v zero) (h .live) beside)
+    (same : r .n ≡ h .n) (is-beside : IsMeet (getD (h .rows) v zero) (h .live) beside)
     (is-near : IsLess beside (getD (h .rows) u zero) near) (is-linked : Linked (h .rows) u near linked)
     (is-joined : IsJoin (getD (h .rows) u zero) (getD (h .rows) v zero) joined) (is-rows : r .rows ≡ set linked u joined)
     (is-names : Renamed (h .names) u v (r .names)) (is-live : IsWithout (h .live) v (r .live)) where
@@ -197,7 +199,7 @@ module _ (h r : Node) (u v : ℕ) (p : AtPair h u v) (beside near : ℕ) (linked
   row-u : (y : ℕ) → has (getD (r .rows) u zero) y ≡ (has (row u) y || has (row v) y)
   row-u y =
       ap (λ (l : List ℕ). has (getD l u zero) y) is-rows
-      ∙ ap (λ (m : ℕ). has m y) (getD-set-same linked u joined zero (omega (arith, is-linked .long, long, p .chosen .live-u .below, p .held .few))) ∙ is-joined y
+      ∙ ap (λ (m : ℕ). has m y) (getD-set-same linked u joined zero (omega (arith, is-linked .long, p .held .rows-long, p .chosen .live-u .below, p .held .few))) ∙ is-joined y
 
   -- who is in u's row already has u
   absorb : (a b c e : Bool) → (T b → T c → T e → T a) → (a || ((b && not c) && e)) ≡ (a || (b && e))
@@ -267,7 +269,12 @@ module _ (h r : Node) (u v : ℕ) (p : AtPair h u v) (beside near : ℕ) (linked
           rw (row-other x y q, ne-eqb x u q, ne-eqb y u d) (apart (eqb x v) (has (h .live) x) (eqb y v) (has (h .live) y) (has (row x) y) (has (row x) v) true true)
 
   pub merged-is : Becomes h r (merge u v (view h))
-  merged-is = record { held = holds r (h .n) (merge u v (view h)) same (p .held .few) is good lives; same = same; is = is }
+  merged-is = record {
+    held = holds r (h .n) (merge u v (view h))
+        (ap length is-rows ∙ length-set linked u joined ∙ is-linked .long ∙ p .held .rows-long) (is-names .long ∙ p .held .names-long) same (p .held .few) is good lives;
+    same = same;
+    is = is;
+  }
     where
       M : Merged (h .n) (view h) (merge u v (view h)) u v
       M = merge-is (h .n) (view h) u v (p .held .good) (p .chosen)
@@ -276,7 +283,7 @@ module _ (h r : Node) (u v : ℕ) (p : AtPair h u v) (beside near : ℕ) (linked
       good = good-merged (h .n) (view h) (merge u v (view h)) u v (p .held .good) (p .chosen) M
 
       is : view r ≡ merge u v (view h)
-      is = graph-ext (view r) (merge u v (view h)) is-names adj-is
+      is = graph-ext (view r) (merge u v (view h)) (is-names .is) adj-is
 
       lives : (x : ℕ) → has (r .live) x ≡ live (h .n) (merge u v (view h)) x
       lives x = live-is x ∙ go (ℕ-discrete x v)
@@ -296,7 +303,7 @@ module _ (h r : Node) (u v : ℕ) (p : AtPair h u v) (beside near : ℕ) (linked
 
 -- ---- separating
 
-module _ (h r : Node) (u v : ℕ) (p : AtPair h u v) (ru rv : ℕ) (long : length (h .rows) ≡ 64) (same : r .n ≡ h .n)
+module _ (h r : Node) (u v : ℕ) (p : AtPair h u v) (ru rv : ℕ) (same : r .n ≡ h .n)
     (is-ru : IsWith (getD (h .rows) u zero) v ru) (is-rv : IsWith (getD (h .rows) v zero) u rv) (is-rows : r .rows ≡ set (set (h .rows) u ru) v rv)
     (is-names : r .names ≡ h .names) (is-live : r .live ≡ h .live) where
   abbrev old : ℕ → ℕ
@@ -317,13 +324,13 @@ module _ (h r : Node) (u v : ℕ) (p : AtPair h u v) (ru rv : ℕ) (long : lengt
   part-u : (y : ℕ) → has (new u) y ≡ (has (old u) y || eqb y v)
   part-u y =
       ap (λ (l : List ℕ). has (getD l u zero) y) is-rows
-      ∙ ap (λ (m : ℕ). has m y) (getD-set-other (set (h .rows) u ru) v u rv zero differ ∙ getD-set-same (h .rows) u ru zero (omega (arith, long, p .chosen .live-u .below, p .held .few)))
+      ∙ ap (λ (m : ℕ). has m y) (getD-set-other (set (h .rows) u ru) v u rv zero differ ∙ getD-set-same (h .rows) u ru zero (omega (arith, p .held .rows-long, p .chosen .live-u .below, p .held .few)))
       ∙ is-ru y ∙ ap (λ (t : Bool). has (old u) y || t) (eqb-turn v y)
 
   part-v : (y : ℕ) → has (new v) y ≡ (has (old v) y || eqb y u)
   part-v y =
       ap (λ (l : List ℕ). has (getD l v zero) y) is-rows
-      ∙ ap (λ (m : ℕ). has m y) (getD-set-same (set (h .rows) u ru) v rv zero (lt-length-set (h .rows) u ru (omega (arith, long, p .chosen .live-v .below, p .held .few))))
+      ∙ ap (λ (m : ℕ). has m y) (getD-set-same (set (h .rows) u ru) v rv zero (lt-length-set (h .rows) u ru (omega (arith, p .held .rows-long, p .chosen .live-v .below, p .held .few))))
       ∙ is-rv y ∙ ap (λ (t : Bool). has (old v) y || t) (eqb-turn u y)
 
   part-other : (x y : ℕ) → x ≢ u → x ≢ v → has (new x) y ≡ has (old x) y
@@ -358,7 +365,12 @@ module _ (h r : Node) (u v : ℕ) (p : AtPair h u v) (ru rv : ℕ) (long : lengt
       go (no q) (no d) = rw (part-other x y q d, ne-eqb x u q, ne-eqb x v d) (or-false (has (h .live) x && (has (h .live) y && has (old x) y)))
 
   pub separated-is : Becomes h r (separate u v (view h))
-  separated-is = record { held = holds r (h .n) (separate u v (view h)) same (p .held .few) is good lives; same = same; is = is }
+  separated-is = record {
+    held = holds r (h .n) (separate u v (view h))
+        (ap length is-rows ∙ length-set (set (h .rows) u ru) v rv ∙ length-set (h .rows) u ru ∙ p .held .rows-long) (ap length is-names ∙ p .held .names-long) same (p .held .few) is good lives;
+    same = same;
+    is = is;
+  }
     where
       P : Parted (h .n) (view h) (separate u v (view h)) u v
       P = separate-is (h .n) (view h) u v (p .held .good) (p .chosen)

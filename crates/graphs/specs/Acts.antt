@@ -4,7 +4,9 @@
 --   AtPair h u v         : u and v may be merged or separated in h
 --   Becomes h r g        : r is a node of as many entries as h, and holds g
 --   Linked rows u s r    : r are as many rows, these, with u in each row of s
---   Renamed names u v r  : r are these names, with u for v
+--   Renamed names u v r  : r are as many names, these, with u for v
+--   MergedRows live rows u v r : of every node with these live vertices and rows, r are the rows once v is merged into u
+--   SeparatedRows rows u v r   : of every node with these rows, r are the rows once u and v are adjacent
 --   shared rows near v   : how many members of near are in the row of v
 --   lead f u l v         : the pair u, v, where f v is more than what leads so far, else what leads
 --   held rows near v     : how many members of near have v in their row
@@ -20,11 +22,11 @@ use Prim.Native.Nat.{ℕ, zero, suc, _<_}
 use lib.Dec.{T, eqb, leb, ltb}
 use lib.ListN.{length, getD}
 use Rattle.sets.specs.Lists.{count, upto}
-use Rattle.sets.specs.Set.{has}
+use Rattle.sets.specs.Set.{has, IsWithout}
 use Rattle.clashes.specs.Matrix.{matrix}
-use Rattle.graphs.specs.Graph.{Graph, to, graph}
+use Rattle.graphs.specs.Graph.{Graph, to, graph, merge, separate}
 use Rattle.graphs.specs.Good.{Chosen}
-use Rattle.graphs.specs.Held.{Held, view}
+use Rattle.graphs.specs.Held.{Held, view, node, holding}
 use Rattle.graphs.specs.declared.Node.{Node}
 use Rattle.graphs.specs.declared.Lead.{Lead}
 use Rattle.graphs.specs.declared.Holders.{Holders}
@@ -47,8 +49,18 @@ pub record Linked (rows : List ℕ) (u s : ℕ) (r : List ℕ) : Type 0 where
   pub long : length r ≡ length rows
   pub is : (x y : ℕ) → has (getD r x zero) y ≡ (has (getD rows x zero) y || (has s x && eqb u y))
 
-abbrev pub Renamed : List ℕ → ℕ → ℕ → List ℕ → Type 0
-Renamed names u v r = (i : ℕ) → getD r i zero ≡ to u v (getD names i zero)
+pub record Renamed (names : List ℕ) (u v : ℕ) (r : List ℕ) : Type 0 where
+  pub long : length r ≡ length names
+  pub is : (i : ℕ) → getD r i zero ≡ to u v (getD names i zero)
+
+abbrev pub MergedRows : ℕ → List ℕ → ℕ → ℕ → List ℕ → Type 0
+MergedRows live rows u v r =
+    (m : Node) (left : ℕ) (names : List ℕ) → AtPair (holding live rows m) u v → IsWithout live v left → Renamed (m .names) u v names
+    → Becomes (holding live rows m) (node (m .n) left r names) (merge u v (view (holding live rows m)))
+
+abbrev pub SeparatedRows : List ℕ → ℕ → ℕ → List ℕ → Type 0
+SeparatedRows rows u v r =
+    (m : Node) → AtPair (holding (m .live) rows m) u v → Becomes (holding (m .live) rows m) (holding (m .live) r m) (separate u v (view (holding (m .live) rows m)))
 
 abbrev pub shared : List ℕ → ℕ → ℕ → ℕ
 shared rows near v = count (λ w. has near w && has (getD rows v zero) w) (upto 64)

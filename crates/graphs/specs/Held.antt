@@ -1,8 +1,9 @@
 -- A graph as it is held in words, and its view as a graph.
 --
 --   view h     : the graph that the node h holds. Rows are read through the live set: bits of vertices that have left do not count
---   Held h     : h's live set is the set of live vertices, its entries are at most 64, and its graph is a good one
+--   Held h     : h's live set is the set of live vertices, its entries are at most 64, its rows and names are 64, and its graph is a good one
 --   choiceOf c : what a choice says: the pair, or none
+--   node n live rows names : the node of these parts
 --   holding live rows m : the node m, with these live vertices and rows
 --   Holds live rows     : some node is held with these live vertices and rows
 --   Each live rows P    : P is true of every node that is held with them. So a function that is lent rows alone says what they hold
@@ -13,7 +14,7 @@ use mathlib.Core.Bool.{_&&_}
 use mathlib.Core.Option.{Option, none, some}
 use mathlib.Core.List.{List}
 use Prim.Native.Nat.{ℕ, zero, _≤_}
-use lib.ListN.{getD}
+use lib.ListN.{length, getD}
 use Rattle.sets.specs.Set.{has}
 use Rattle.graphs.specs.Graph.{Graph, live}
 use Rattle.graphs.specs.Good.{Good}
@@ -29,6 +30,8 @@ view h = record {
 
 pub record Held (h : Node) : Type 0 where
   pub few : h .n ≤ 64
+  pub rows-long : length (h .rows) ≡ 64
+  pub names-long : length (h .names) ≡ 64
   pub lives : (x : ℕ) → has (h .live) x ≡ live (h .n) (view h) x
   pub good : Good (h .n) (view h)
 
@@ -36,8 +39,11 @@ abbrev pub choiceOf : Choice → Option (ℕ × ℕ)
 choiceOf Complete = none
 choiceOf (Split u v) = some (u, v)
 
+abbrev pub node : ℕ → ℕ → List ℕ → List ℕ → Node
+node n live rows names = record { n = n; live = live; rows = rows; names = names }
+
 abbrev pub holding : ℕ → List ℕ → Node → Node
-holding live rows m = record { n = m .n; live = live; rows = rows; names = m .names }
+holding live rows m = node (m .n) live rows (m .names)
 
 abbrev pub Holds : ℕ → List ℕ → Type 0
 Holds live rows = (m : Node) × Held (holding live rows m)

@@ -1,5 +1,5 @@
-// A node of the walk, held in words. It goes in by value and comes back by value; each contract says, by the view of the result, which graph
-// it holds.
+// A node of the walk, held in words. Its rows are lent where they are only read, and changed in place; each contract says, by the view, which graph
+// is held.
 use sets::below;
 use sets::join;
 use sets::less;
@@ -16,7 +16,7 @@ ghost use Rattle.sets.specs.Set.{has as member};
 ghost use Rattle.clashes.specs.Matrix.{Sound};
 ghost use Rattle.graphs.specs.Graph.{to, merge, separate, pair, complete, grouping};
 ghost use Rattle.graphs.specs.Held.{Held, view, choiceOf, Holds, Each};
-ghost use Rattle.graphs.specs.Acts.{IsRoot, AtPair, Becomes, Linked, Renamed, lead, shared, Mutual, Counted, Hopeful};
+ghost use Rattle.graphs.specs.Acts.{IsRoot, AtPair, Becomes, Linked, Renamed, MergedRows, SeparatedRows, lead, shared, Mutual, Counted, Hopeful};
 
 // How many entries there are, the live vertices, a row of neighbours for each, and which live vertex stands for each entry.
 pub struct Node {
@@ -96,7 +96,7 @@ fn renamed(w: u8, u: u8, v: u8) -> u8
 }
 
 // Every entry that v stood for has u now.
-fn rename(names: &mut [u8; 64], u: u8, v: u8)
+pub fn rename(names: &mut [u8; 64], u: u8, v: u8)
     requires { ⌜ length (now names) ≡ 64 ⌝ }
     requires { ⌜ u < v ⌝ }
     ensures { λ r. ⌜ Renamed (now (names .entry)) u v (now (names .exit)) ⌝ }
@@ -109,32 +109,31 @@ fn rename(names: &mut [u8; 64], u: u8, v: u8)
     }
 }
 
-// v leaves, the row of u is the two rows joined, neighbours of v become neighbours of u: those of both are already.
-pub fn merged(mut h: Node, u: usize, v: usize) -> Node
-    requires { ⌜ AtPair h u v ⌝ }
-    ensures { λ r. ⌜ Becomes h r (merge u v (view h)) ⌝ }
+// In lent rows v is merged into u: the row of u is the two rows joined, neighbours of v become neighbours of u: those of both are already. The row of
+// v stays, since rows are read through the live set.
+pub fn merge_rows(live: u64, rows: &mut [u64; 64], u: usize, v: usize)
+    requires { ⌜ length (now rows) ≡ 64 ⌝ }
+    requires { ⌜ u < 64 ⌝ }
+    requires { ⌜ v < 64 ⌝ }
+    ensures { λ r. ⌜ MergedRows live (now (rows .entry)) u v (now (rows .exit)) ⌝ }
 {
-    let beside = meet(h.rows[v], h.live);
-    let near = less(beside, h.rows[u]);
-    let row = join(h.rows[u], h.rows[v]);
-    link(&mut h.rows, u, near);
-    h.rows[u] = row;
-    rename(&mut h.names, u as u8, v as u8);
-    let live = without(h.live, v);
-    h.live = live;
-    h
+    let beside = meet(rows[v], live);
+    let near = less(beside, rows[u]);
+    let row = join(rows[u], rows[v]);
+    link(rows, u, near);
+    rows[u] = row;
 }
 
-// u and v become adjacent.
-pub fn separated(mut h: Node, u: usize, v: usize) -> Node
-    requires { ⌜ AtPair h u v ⌝ }
-    ensures { λ r. ⌜ Becomes h r (separate u v (view h)) ⌝ }
+// In lent rows u and v become adjacent.
+pub fn separate_rows(rows: &mut [u64; 64], u: usize, v: usize)
+    requires { ⌜ u < 64 ⌝ }
+    requires { ⌜ v < 64 ⌝ }
+    ensures { λ r. ⌜ SeparatedRows (now (rows .entry)) u v (now (rows .exit)) ⌝ }
 {
-    let ru = with(h.rows[u], v);
-    let rv = with(h.rows[v], u);
-    h.rows[u] = ru;
-    h.rows[v] = rv;
-    h
+    let ru = with(rows[u], v);
+    let rv = with(rows[v], u);
+    rows[u] = ru;
+    rows[v] = rv;
 }
 
 // Are every two live vertices adjacent?
@@ -252,14 +251,6 @@ pub fn choose_among(live: u64, rows: &[u64; 64]) -> Choice
         return Choice::Complete;
     }
     Choice::Split(best.u, best.v)
-}
-
-// The same of a node.
-pub fn choose(h: Node) -> Choice
-    requires { ⌜ Held h ⌝ }
-    ensures { λ r. ⌜ choiceOf r ≡ pair (h .n) (view h) ⌝ }
-{
-    choose_among(h.live, &h.rows)
 }
 
 // The groups, numbered from 0 by smallest member: who stands for itself opens the next number, any other takes its name's.

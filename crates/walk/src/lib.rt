@@ -1,19 +1,22 @@
-// Document 01's two walks over the Zykov tree of a lent clash list, each with a budget of nodes. Everything goes by value, on the stack.
+// Document 01's two walks over the Zykov tree of a lent clash list, each with a budget of nodes, all on the stack. A merged graph gets rows of its own;
+// a node's own rows become those of the separated graph.
 use bounds::reaches;
 use clashes::Verdict;
 use clashes::validity;
 use graphs::Choice;
 use graphs::Node;
-use graphs::choose;
+use graphs::choose_among;
 use graphs::colours;
-use graphs::merged;
+use graphs::merge_rows;
+use graphs::rename;
 use graphs::root;
-use graphs::separated;
+use graphs::separate_rows;
 use sets::size;
+use sets::without;
 ghost use mathlib.Core.Path.{_≡_};
 ghost use Prim.Native.Nat.{_≤_, _<_};
 ghost use lib.ListN.{length};
-ghost use Rattle.graphs.specs.Held.{view};
+ghost use Rattle.graphs.specs.Held.{view, node};
 ghost use Rattle.bounds.specs.Names.{mycielskian};
 ghost use Rattle.zykov.specs.Tree.{below};
 ghost use Rattle.zykov.specs.Walk.{become, compare, bounded, plain as plainRule, boundedWalk, plainWalk};
@@ -86,62 +89,81 @@ fn counted(s: State) -> State
 }
 
 // The groups of a complete graph become the best.
-fn improved(h: Node, s: State) -> State
-    requires { ⌜ Ready h s ⌝ }
-    ensures { λ r. ⌜ Found (become (h .n)) h s r ⌝ }
+fn improved(n: usize, live: u64, rows: &[u64; 64], names: &[u8; 64], s: State) -> State
+    requires { ⌜ Ready (node n live (now rows) (now names)) s ⌝ }
+    ensures { λ r. ⌜ Found (become n) (node n live (now (rows .entry)) (now (names .entry))) s r ⌝ }
 {
+    let held = *rows;
+    let called = *names;
+    let best = colours(Node {
+        n: n,
+        live: live,
+        rows: held,
+        names: called,
+    });
     let mut t = s;
-    let best = colours(h);
     t.best = best;
-    t.k = size(h.live);
+    t.k = size(live);
     t
 }
 
-// The node h is entered.
-fn enter(h: Node, s: State) -> State
-    requires { ⌜ Ready h s ⌝ }
-    ensures { λ r. ⌜ Comes (h .n) s r (within (bounded (h .n) mycielskian) (s .budget) (below (h .n) (view h)) (stateOf (h .n) s)) ⌝ }
+// The node of these parts is entered. Its rows are its own: they are of no use to the caller after it.
+fn enter(n: usize, live: u64, rows: &mut [u64; 64], names: &[u8; 64], s: State) -> State
+    requires { ⌜ Ready (node n live (now rows) (now names)) s ⌝ }
+    ensures { λ r. ⌜ Comes n s r (within (bounded n mycielskian) (s .budget) (below n (view (node n live (now (rows .entry)) (now (names .entry))))) (stateOf n s)) ⌝ }
 {
-    let t = counted(s);
-    if t.out {
-        return t;
+    let entered = counted(s);
+    if entered.out {
+        return entered;
     }
-    if reaches(h, t.k) {
-        return t;
+    if reaches(live, rows, entered.k) {
+        return entered;
     }
-    let c = choose(h);
+    let c = choose_among(live, rows);
     match c {
-        Choice::Complete => improved(h, t),
-        Choice::Split(u, v) => split(h, u, v, t),
+        Choice::Complete => improved(n, live, rows, names, entered),
+        Choice::Split(u, v) => split(n, live, rows, names, u, v, entered),
     }
 }
 
-// The node h, entered already, is split at u and v: the merged graph is entered, then the graph with u and v adjacent, which is split in its turn.
-fn split(h: Node, u: usize, v: usize, s: State) -> State
-    requires { ⌜ ReadyAt h u v s ⌝ }
-    ensures { λ r. ⌜ Comes (h .n) s r (onward (bounded (h .n) mycielskian) (s .budget) (h .n) (view h) u v (stateOf (h .n) s)) ⌝ }
+// The node of these parts, entered already, is split at u and v: the merged graph is entered, then the graph with u and v adjacent, which is split in
+// its turn.
+fn split(
+    n: usize,
+    live: u64,
+    rows: &mut [u64; 64],
+    names: &[u8; 64],
+    u: usize,
+    v: usize,
+    s: State,
+) -> State
+    requires { ⌜ ReadyAt (node n live (now rows) (now names)) u v s ⌝ }
+    ensures { λ r. ⌜ Comes n s r (onward (bounded n mycielskian) (s .budget) n (view (node n live (now (rows .entry)) (now (names .entry)))) u v (stateOf n s)) ⌝ }
 {
-    let mut g = h;
     let mut a = u;
     let mut b = v;
     let mut t = s;
     loop {
-        t = enter(merged(g, a, b), t);
+        let mut fewer = *rows;
+        let mut called = *names;
+        merge_rows(live, &mut fewer, a, b);
+        rename(&mut called, a as u8, b as u8);
+        t = enter(n, without(live, b), &mut fewer, &called, t);
         if t.out {
             return t;
         }
-        g = separated(g, a, b);
+        separate_rows(rows, a, b);
         t = counted(t);
         if t.out {
             return t;
         }
-        if reaches(g, t.k) {
+        if reaches(live, rows, t.k) {
             return t;
         }
-        let c = choose(g);
+        let c = choose_among(live, rows);
         match c {
             Choice::Complete => {
-                return improved(g, t);
+                return improved(n, live, rows, names, t);
             }
             Choice::Split(x, y) => {
                 a = x;
@@ -152,41 +174,44 @@ fn split(h: Node, u: usize, v: usize, s: State) -> State
 }
 
 // A complete graph is met: it counts, and its groups are kept where they are fewer than the best.
-fn compared(h: Node, s: State) -> State
-    requires { ⌜ (Ready h s) × (s .leaves < s .nodes) ⌝ }
-    ensures { λ r. ⌜ Found (compare (h .n)) h s r ⌝ }
+fn compared(n: usize, live: u64, rows: &[u64; 64], names: &[u8; 64], s: State) -> State
+    requires { ⌜ (Ready (node n live (now rows) (now names)) s) × (s .leaves < s .nodes) ⌝ }
+    ensures { λ r. ⌜ Found (compare n) (node n live (now (rows .entry)) (now (names .entry))) s r ⌝ }
 {
     let mut t = s;
     t.leaves = t.leaves + 1;
-    if size(h.live) < t.k {
-        return improved(h, t);
+    if size(live) < t.k {
+        return improved(n, live, rows, names, t);
     }
     t
 }
 
-// The plain walk below h: it goes by itself to the merged graph, which has one vertex fewer, and loops on separations.
-fn explore(h: Node, s: State) -> State
-    requires { ⌜ Ready h s ⌝ }
-    ensures { λ r. ⌜ Comes (h .n) s r (within (plainRule (h .n)) (s .budget) (below (h .n) (view h)) (stateOf (h .n) s)) ⌝ }
+// The plain walk below the node of these parts: it goes by itself to the merged graph, which has one vertex fewer, and loops on separations.
+fn explore(n: usize, live: u64, rows: &mut [u64; 64], names: &[u8; 64], s: State) -> State
+    requires { ⌜ Ready (node n live (now rows) (now names)) s ⌝ }
+    ensures { λ r. ⌜ Comes n s r (within (plainRule n) (s .budget) (below n (view (node n live (now (rows .entry)) (now (names .entry))))) (stateOf n s)) ⌝ }
 {
-    let mut g = h;
     let mut t = s;
     loop {
         t = counted(t);
         if t.out {
             return t;
         }
-        let c = choose(g);
+        let c = choose_among(live, rows);
         match c {
             Choice::Complete => {
-                return compared(g, t);
+                return compared(n, live, rows, names, t);
             }
             Choice::Split(u, v) => {
-                t = explore(merged(g, u, v), t);
+                let mut fewer = *rows;
+                let mut called = *names;
+                merge_rows(live, &mut fewer, u, v);
+                rename(&mut called, u as u8, v as u8);
+                t = explore(n, without(live, v), &mut fewer, &called, t);
                 if t.out {
                     return t;
                 }
-                g = separated(g, u, v);
+                separate_rows(rows, u, v);
             }
         }
     }
@@ -237,7 +262,10 @@ pub fn fewest(rows: &[u64], colours: &mut [u8], budget: u64) -> Answer
         Gate::Shut(a) => a,
         Gate::Open => {
             let n = rows.len();
-            let s = enter(root(rows), start(n, budget));
+            let h = root(rows);
+            let mut held = h.rows;
+            let names = h.names;
+            let s = enter(n, h.live, &mut held, &names, start(n, budget));
             told(n, s, colours)
         }
     }
@@ -252,7 +280,10 @@ pub fn plain(rows: &[u64], colours: &mut [u8], budget: u64) -> Answer
         Gate::Shut(a) => a,
         Gate::Open => {
             let n = rows.len();
-            let s = explore(root(rows), start(n, budget));
+            let h = root(rows);
+            let mut held = h.rows;
+            let names = h.names;
+            let s = explore(n, h.live, &mut held, &names, start(n, budget));
             told(n, s, colours)
         }
     }

@@ -5,7 +5,7 @@ use lib.ListN.{length}
 use Rattle.zykov.specs.Walk.{bounded, boundedWalk}
 use Rattle.bounds.specs.Names.{mycielskian}
 use Rattle.walk.specs.Promise.{Open, Gated}
-use Rattle.walk.proofs.Starting.{ready-start}
+use Rattle.walk.proofs.Starting.{root-parts, ready-start}
 use Rattle.walk.proofs.Answers.{bounded-answers}
 use Rattle.walk.proofs.Meets.{promised-told, promised-refused}
 use Rattle.walk.proofs.fewest.Statement.{statement}
@@ -31,13 +31,13 @@ root-requires : tie.Need-root-requires
 root-requires c κs = opened c .sound
 
 start-requires : tie.Need-start-requires
-start-requires c κs = opened (c .before) .sound .apart .inside .few
+start-requires c κs = opened (c .before .before .before .before .before) .sound .apart .inside .few
 
 enter-requires : tie.Need-enter-requires
-enter-requires c κs = ready-start _ _ _ _ (c .before .root .ensures) (c .start .ensures)
+enter-requires c κs = ready-start _ _ _ _ (root-parts _ _ (c .before .before .before .before .before .root .ensures)) (c .start .ensures)
 
 told-requires : tie.Need-told-requires
-told-requires c κs = let o = opened (c .before .before .before .before) in (o .sound .apart .inside .few, o .bytes)
+told-requires c κs = let o = opened (c .before .before .before .before .before .before .before .before) in (o .sound .apart .inside .few, o .bytes)
 
 returns : tie.Need-returns
 returns c =
@@ -54,9 +54,9 @@ returns-2 c =
     let t = c .before .before in
     let e = t .before .before in
     let s = e .before in
-    let r = s .before in
+    let r = s .before .before .before .before .before in
     let a = r .before .before .before .before .before .before .args in
-    promised-told (λ n. bounded n mycielskian) (boundedWalk mycielskian) bounded-answers (a .rows .now) (a .colours .now) (a .budget) (opened (r .before)) (r .root .result) (r .root .ensures)
+    promised-told (λ n. bounded n mycielskian) (boundedWalk mycielskian) bounded-answers (a .rows .now) (a .colours .now) (a .budget) (opened (r .before)) _ (root-parts _ _ (r .root .ensures))
     (s .start .result) (e .enter .result) (s .start .ensures) (e .enter .ensures) _ _ (t .told .ensures)
 
 pub fewest-spec : {M : Type 1} → statement M

@@ -4,7 +4,7 @@ use borrow.Author.Needs.{needs}
 use lib.ListN.{length}
 use Rattle.zykov.specs.Walk.{plain, plainWalk}
 use Rattle.walk.specs.Promise.{Open, Gated}
-use Rattle.walk.proofs.Starting.{ready-start}
+use Rattle.walk.proofs.Starting.{root-parts, ready-start}
 use Rattle.walk.proofs.Answers.{plain-answers}
 use Rattle.walk.proofs.Meets.{promised-told, promised-refused}
 use Rattle.walk.proofs.plain.Statement.{statement}
@@ -30,13 +30,13 @@ root-requires : tie.Need-root-requires
 root-requires c κs = opened c .sound
 
 start-requires : tie.Need-start-requires
-start-requires c κs = opened (c .before) .sound .apart .inside .few
+start-requires c κs = opened (c .before .before .before .before .before) .sound .apart .inside .few
 
 explore-requires : tie.Need-explore-requires
-explore-requires c κs = ready-start _ _ _ _ (c .before .root .ensures) (c .start .ensures)
+explore-requires c κs = ready-start _ _ _ _ (root-parts _ _ (c .before .before .before .before .before .root .ensures)) (c .start .ensures)
 
 told-requires : tie.Need-told-requires
-told-requires c κs = let o = opened (c .before .before .before .before) in (o .sound .apart .inside .few, o .bytes)
+told-requires c κs = let o = opened (c .before .before .before .before .before .before .before .before) in (o .sound .apart .inside .few, o .bytes)
 
 returns : tie.Need-returns
 returns c =
@@ -53,9 +53,9 @@ returns-2 c =
     let t = c .before .before in
     let e = t .before .before in
     let s = e .before in
-    let r = s .before in
+    let r = s .before .before .before .before .before in
     let a = r .before .before .before .before .before .before .args in
-    promised-told plain plainWalk plain-answers (a .rows .now) (a .colours .now) (a .budget) (opened (r .before)) (r .root .result) (r .root .ensures)
+    promised-told plain plainWalk plain-answers (a .rows .now) (a .colours .now) (a .budget) (opened (r .before)) _ (root-parts _ _ (r .root .ensures))
     (s .start .result) (e .explore .result) (s .start .ensures) (e .explore .ensures) _ _ (t .told .ensures)
 
 pub plain-spec : {M : Type 1} → statement M

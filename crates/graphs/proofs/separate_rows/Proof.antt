@@ -1,9 +1,10 @@
--- `graphs::separated` meets its contract. Assumes nothing.
+-- `graphs::separate_rows` meets its contract. Assumes nothing.
 use mathlib.Core.Path.{refl}
+use Rattle.graphs.specs.Held.{holding}
 use Rattle.graphs.proofs.HeldLaws.{separated-is}
 use borrow.Author.Needs.{needs}
-use Rattle.graphs.proofs.separated.Statement.{statement}
-use Rattle.graphs.proofs.separated.Tie as tie
+use Rattle.graphs.proofs.separate_rows.Statement.{statement}
+use Rattle.graphs.proofs.separate_rows.Tie as tie
 
 mul-with : tie.Need-mul-with
 mul-with c = search needs
@@ -23,26 +24,26 @@ element-copy-out-with-2 c = search needs
 with-requires-2 : tie.Need-with-requires-2
 with-requires-2 c κs = search needs
 
-mul-h : tie.Need-mul-h
-mul-h c = search needs
+mul-rows : tie.Need-mul-rows
+mul-rows c = search needs
 
-element-write-h : tie.Need-element-write-h
-element-write-h c = search needs
+element-write-rows : tie.Need-element-write-rows
+element-write-rows c = search needs
 
-mul-h-2 : tie.Need-mul-h-2
-mul-h-2 c = search needs
+mul-rows-2 : tie.Need-mul-rows-2
+mul-rows-2 c = search needs
 
-element-write-h-2 : tie.Need-element-write-h-2
-element-write-h-2 c = search needs
+element-write-rows-2 : tie.Need-element-write-rows-2
+element-write-rows-2 c = search needs
 
 returns : tie.Need-returns
 returns c =
     let a = c .before .before .before .before in
-    separated-is (a .args .t1) _ (a .args .u) (a .args .v) (a .pre) (c .before .before .with .result) (c .with2 .result) (search needs) refl
+    λ m p. separated-is (holding (m .live) (a .args .rows .now) m) _ (a .args .u) (a .args .v) p (c .before .before .with .result) (c .with2 .result) refl
     (c .before .before .with .ensures) (c .with2 .ensures) refl refl refl
 
-pub separated-spec : {M : Type 1} → statement M
-separated-spec =
+pub separate-rows-spec : {M : Type 1} → statement M
+separate-rows-spec =
     tie.close
     (tie.spec
     mul-with
@@ -51,8 +52,8 @@ separated-spec =
     mul-with-2
     element-copy-out-with-2
     with-requires-2
-    mul-h
-    element-write-h
-    mul-h-2
-    element-write-h-2
+    mul-rows
+    element-write-rows
+    mul-rows-2
+    element-write-rows-2
     returns)
