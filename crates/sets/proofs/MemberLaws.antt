@@ -4,7 +4,7 @@ use mathlib.Core.Logic.{_⊎_, inl, inr, _≢_}
 use mathlib.Core.Bool.{Bool, true, false, not, _&&_}
 use mathlib.Core.List.{List, [], _∷_, _++_}
 use mathlib.Core.Option.{Option, none, some}
-use Prim.Native.Nat.{ℕ, zero, suc, _+_, _<_}
+use Prim.Native.Nat.{ℕ, zero, suc, _+_, _≤_, _<_}
 use native.Mathlib.Nat.{not-suc-le-zero}
 use native.Mathlib.Decide.{ℕ-discrete}
 use native.Mathlib.Omega.{arith}
@@ -12,12 +12,18 @@ use lib.Dec.{T, eqb}
 use lib.ListN.{length, length-append}
 use borrow.Author.Tests.{ne-eqb}
 use Rattle.sets.specs.Lists.{bit, In, count, table, upto, keep, members, first, lowest}
-use Rattle.sets.proofs.TestLaws.{bit-one, bit-zero, T?, and-r, and-true, eqb-same}
+use Rattle.sets.proofs.TestLaws.{bit-few, bit-one, bit-zero, T?, and-r, and-true, eqb-same}
 use Rattle.sets.proofs.ListLaws.{count-append, table-suc, In-append, In-append-l, In-append-r}
 
 pub count-upto : (p : ℕ → Bool) (n : ℕ) → count p (upto (suc n)) ≡ count p (upto n) + bit (p n)
 unfolding upto
 count-upto p n = omega (arith, ap (count p) (table-suc (λ i. i) n), count-append p (table (λ i. i) n) (n ∷ []))
+
+-- no more than n numbers below n pass
+pub count-few : (p : ℕ → Bool) (n : ℕ) → count p (upto n) ≤ n
+unfolding upto
+count-few p zero = omega arith
+count-few p (suc n) = omega (arith, count-upto p n, bit-few (p n), count-few p n)
 
 -- two tests that agree below n count the same there
 pub count-agree : (n : ℕ) (p q : ℕ → Bool) → ((j : ℕ) → j < n → p j ≡ q j) → count p (upto n) ≡ count q (upto n)
@@ -26,18 +32,22 @@ count-agree zero p q h = refl
 count-agree (suc n) p q h =
     omega (arith, count-upto p n, count-upto q n, ap bit (h n (omega arith)), count-agree n p q (λ j l. h j (omega arith)))
 
--- a test that fails where another passes, at one number, and agrees with it elsewhere
+-- two tests that agree everywhere but at w count the same but for w
+pub count-but : (n : ℕ) (p q : ℕ → Bool) (w : ℕ) → w < n → ((j : ℕ) → j ≢ w → q j ≡ p j)
+    → count q (upto n) + bit (p w) ≡ count p (upto n) + bit (q w)
+count-but zero p q w a h = absurd (not-suc-le-zero a)
+count-but (suc n) p q w a h = go (ℕ-discrete w n) (λ b. count-but n p q w b h)
+  where
+    go : Dec (w ≡ n) → (w < n → count q (upto n) + bit (p w) ≡ count p (upto n) + bit (q w))
+        → count q (upto (suc n)) + bit (p w) ≡ count p (upto (suc n)) + bit (q w)
+    go (yes e) r =
+        omega (arith, count-upto p n, count-upto q n, ap (λ (x : ℕ). bit (p x)) e, ap (λ (x : ℕ). bit (q x)) e, count-agree n q p (λ j l. h j (λ z. absurd (omega arith))))
+    go (no d) r = omega (arith, count-upto p n, count-upto q n, ap bit (h n (λ z. d (sym z))), r (omega arith))
+
+-- where one of them fails at w, and the other passes
 pub count-out : (n : ℕ) (p q : ℕ → Bool) (w : ℕ) → w < n → T (p w) → ¬ T (q w) → ((j : ℕ) → j ≢ w → q j ≡ p j)
     → suc (count q (upto n)) ≡ count p (upto n)
-count-out zero p q w a t f h = absurd (not-suc-le-zero a)
-count-out (suc n) p q w a t f h = go (ℕ-discrete w n) (λ b. count-out n p q w b t f h)
-  where
-    go : Dec (w ≡ n) → (w < n → suc (count q (upto n)) ≡ count p (upto n)) → suc (count q (upto (suc n))) ≡ count p (upto (suc n))
-    go (yes e) r =
-        let one : bit (p n) ≡ 1 = ap (λ (x : ℕ). bit (p x)) (sym e) ∙ bit-one (p w) t in
-        let none : bit (q n) ≡ 0 = ap (λ (x : ℕ). bit (q x)) (sym e) ∙ bit-zero (q w) f in
-        omega (arith, count-upto p n, count-upto q n, count-agree n q p (λ j l. h j (λ z. absurd (omega arith))))
-    go (no d) r = omega (arith, count-upto p n, count-upto q n, ap bit (h n (λ z. d (sym z))), r (omega arith))
+count-out n p q w a t f h = omega (arith, count-but n p q w a h, bit-one (p w) t, bit-zero (q w) f)
 
 pub members-count : (p : ℕ → Bool) (n : ℕ) → length (members p n) ≡ count p (upto n)
 unfolding upto

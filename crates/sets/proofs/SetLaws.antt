@@ -16,7 +16,7 @@ use lib.Dec.{T, eqb, ltb, leb, eqb→eq, eqb·zero-suc, eqb·suc-zero, eqb·suc-
 use lib.Pow.{shr-shr, pow-mono, pow-pos}
 use borrow.Author.Tests.{eq-eqb, ne-eqb}
 use Rattle.sets.specs.Lists.{bit, count, table, upto, all, members, lowest}
-use Rattle.sets.specs.Set.{has, size, subset, IsWith, IsWithout, IsJoin, IsMeet, IsLess, IsBelow, IsLowest}
+use Rattle.sets.specs.Set.{has, size, subset, IsWith, IsWithout, IsJoin, IsMeet, IsLess, IsBelow, IsLowest, IsRest}
 use Rattle.sets.proofs.TestLaws.{and-r, and-true, T→false, T-ext, eqb-same, all-get, all-make}
 use Rattle.sets.proofs.ListLaws.{count-iff}
 use Rattle.sets.proofs.MemberLaws.{count-out, members-lowest, lowest-is}
@@ -265,6 +265,33 @@ members-cons n s w r l h = members-lowest n (has s) (has r) w (l .below) (l .mem
 
     same : (j : ℕ) → j ≢ w → has r j ≡ has s j
     same j d = h j ∙ ap (λ (b : Bool). has s j && not b) (ne-eqb w j (λ e. d (sym e))) ∙ and-true (has s j)
+
+-- one less ends in other digits from the lowest member down
+one-less : (w s : ℕ) → T (has s w) → ((j : ℕ) → j < w → ¬ T (has s j)) → (j : ℕ) → (has s j && has (s - 1) j) ≡ (has s j && not (eqb w j))
+one-less zero s t f zero =
+    let e : s % 2 ≡ 1 = eqb→eq (s % 2) 1 (subst T (has-zero s) t) in
+    ap (λ (b : Bool). has s 0 && b) (has-zero (s - 1) ∙ ne-eqb ((s - 1) % 2) 1 (λ q. absurd (omega arith)))
+one-less zero s t f (suc j) =
+    let e : s % 2 ≡ 1 = eqb→eq (s % 2) 1 (subst T (has-zero s) t) in
+    let h : (s - 1) / 2 ≡ s / 2 = omega arith in
+    ap (λ (b : Bool). has s (suc j) && b) (has-suc (s - 1) j ∙ ap (λ (x : ℕ). has x j) h ∙ sym (has-suc s j)) ∙ and-same (has s (suc j))
+    ∙ ap (λ (b : Bool). has s (suc j) && not b) (sym (eqb·zero-suc j))
+  where
+    and-same : (a : Bool) → (a && a) ≡ (a && true)
+    and-same true = refl
+    and-same false = refl
+one-less (suc w) s t f zero =
+    let e : has s 0 ≡ false = T→false (has s 0) (f 0 (omega arith)) in
+    ap (λ (b : Bool). b && has (s - 1) 0) e ∙ sym (ap (λ (b : Bool). b && not (eqb (suc w) 0)) e)
+one-less (suc w) s t f (suc j) =
+    let q : s % 2 ≢ 1 = λ e. f 0 (omega arith) (subst T (sym (has-zero s ∙ eq-eqb (s % 2) 1 e)) tt) in
+    let h : (s - 1) / 2 ≡ s / 2 - 1 = omega arith in
+    ap₂ (λ (a b : Bool). a && b) (has-suc s j) (has-suc (s - 1) j ∙ ap (λ (x : ℕ). has x j) h)
+    ∙ one-less w (s / 2) (subst T (has-suc s w) t) (λ i b u. f (suc i) (omega arith) (subst T (sym (has-suc s i)) u)) j
+    ∙ ap₂ (λ (a b : Bool). a && not b) (sym (has-suc s j)) (sym (eqb·suc-suc w j))
+
+pub rest-is : (n s : ℕ) → IsRest n s (bitAnd s (s - 1))
+rest-is n s w l j = meet-is s (s - 1) j ∙ one-less w s (l .member) (l .least) j
 
 -- ---- subsets
 

@@ -2,7 +2,7 @@
 use mathlib.Core.Path.{_≡_, refl, subst}
 use mathlib.Core.Logic.{_⊎_, inl, inr}
 use mathlib.Core.Bool.{Bool, true, false, not, _&&_, _||_}
-use Prim.Native.Nat.{ℕ, zero, suc, _+_, _<_}
+use Prim.Native.Nat.{ℕ, zero, suc, _+_, _≤_, _<_}
 use native.Mathlib.Nat.{not-suc-le-zero}
 use native.Mathlib.Decide.{ℕ-discrete}
 use native.Mathlib.Omega.{arith}
@@ -67,6 +67,10 @@ eqb-of m k e = subst (λ (x : ℕ). T (eqb m x)) e (eqb-refl m)
 
 pub eqb-same : (x : ℕ) → eqb x x ≡ true
 eqb-same x = eq-eqb x x refl
+
+pub bit-few : (b : Bool) → bit b ≤ 1
+bit-few true = omega arith
+bit-few false = omega arith
 
 pub bit-one : (b : Bool) → T b → bit b ≡ 1
 bit-one true t = refl

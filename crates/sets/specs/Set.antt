@@ -10,6 +10,7 @@
 --   IsLess s t r     : r has what s has and t does not
 --   IsBelow n r      : r has the numbers below n, and no others
 --   IsLowest n s w   : w is the lowest member of s, and is below n
+--   IsRest n s r     : r is s without its lowest member, where that is below n
 --
 -- Two numbers with the same members are equal (`same-members` of proofs/SetLaws.antt), so each of these leaves one r. Assumes nothing.
 use mathlib.Core.Path.{_≡_}
@@ -49,3 +50,6 @@ pub record IsLowest (n s w : ℕ) : Type 0 where
   pub below : w < n
   pub member : T (has s w)
   pub least : (j : ℕ) → j < w → ¬ T (has s j)
+
+abbrev pub IsRest : ℕ → ℕ → ℕ → Type 0
+IsRest n s r = (w : ℕ) → IsLowest n s w → IsWithout s w r

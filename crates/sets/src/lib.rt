@@ -2,7 +2,7 @@
 // width; 64 stands only where a function needs it.
 ghost use mathlib.Core.Path.{_≡_};
 ghost use Prim.Native.Nat.{_<_, _≤_};
-ghost use Rattle.sets.specs.Set.{has as member, size as sizeOf, subset, IsWith, IsWithout, IsJoin, IsMeet, IsLess, IsBelow, IsLowest};
+ghost use Rattle.sets.specs.Set.{has as member, size as sizeOf, subset, IsWith, IsWithout, IsJoin, IsMeet, IsLess, IsBelow, IsLowest, IsRest};
 
 // Is i in s?
 pub fn has(s: u64, i: usize) -> bool
@@ -77,6 +77,14 @@ pub fn lowest(s: u64) -> usize
     ensures { λ r. ⌜ IsLowest 64 s r ⌝ }
 {
     wide(u64::trailing_zeros(s))
+}
+
+// A set that has a member, without its lowest.
+pub fn rest(s: u64) -> u64
+    requires { ⌜ (s ≡ 0 → ⊥) ⌝ }
+    ensures { λ r. ⌜ IsRest 64 s r ⌝ }
+{
+    s & (s - 1)
 }
 
 // The numbers below n.

@@ -1,0 +1,3 @@
+-- The laws: of digits and rows that are counted, and of the greatest count.
+pub mod CountLaws
+pub mod MostLaws

@@ -1,0 +1,22 @@
+-- `counts::half` meets its contract: the twos are where both words have a digit, the ones where just one has. Assumes nothing.
+use Rattle.counts.proofs.CountLaws.{half-is}
+use borrow.Author.Needs.{needs}
+use Rattle.counts.proofs.half.Statement.{statement}
+use Rattle.counts.proofs.half.Tie as tie
+
+meet-requires : tie.Need-meet-requires
+meet-requires c κs = search needs
+
+join-requires : tie.Need-join-requires
+join-requires c κs = search needs
+
+less-requires : tie.Need-less-requires
+less-requires c κs = search needs
+
+returns : tie.Need-returns
+returns c =
+    let a = c .before .before .before .args in
+    half-is (a .a) (a .b) (c .before .before .meet .result) (c .before .join .result) (c .less .result) (c .before .before .meet .ensures) (c .before .join .ensures) (c .less .ensures)
+
+pub half-spec : {M : Type 1} → statement M
+half-spec = tie.close (tie.spec meet-requires join-requires less-requires returns)

@@ -1,0 +1,3 @@
+-- Counts of rows, held as slices of bits, and the greatest of them.
+pub mod Counts
+pub mod Steps

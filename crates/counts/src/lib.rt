@@ -1,0 +1,161 @@
+// In how many rows of a set's members each number below 64 is: all counts at once, as slices. Slice k has the numbers whose count has digit k,
+// so that one operation on words adds to 64 counts.
+use sets::join;
+use sets::less;
+use sets::lowest;
+use sets::meet;
+use sets::rest;
+ghost use mathlib.Core.Path.{_≡_};
+ghost use Prim.Native.Nat.{_+_, _<_};
+ghost use Rattle.counts.specs.Counts.{Counted, IsMost};
+ghost use Rattle.counts.specs.Steps.{IsHalf, IsSum, IsPulled, Fits, Absorbed, IsNarrowed};
+
+// The count at v has digit k where v is in slice sk. Seven are enough: no count is above 64.
+pub struct Counts {
+    pub s0: u64,
+    pub s1: u64,
+    pub s2: u64,
+    pub s3: u64,
+    pub s4: u64,
+    pub s5: u64,
+    pub s6: u64,
+}
+
+// The greatest count, and the numbers that have it.
+pub struct Most {
+    pub count: usize,
+    pub having: u64,
+}
+
+// Sums of digits: their ones and their twos.
+struct Sum {
+    pub ones: u64,
+    pub twos: u64,
+}
+
+// A row that is counted next, and whose rows are left.
+struct Pulled {
+    pub row: u64,
+    pub left: u64,
+}
+
+// Two digits.
+fn half(a: u64, b: u64) -> Sum
+    ensures { λ r. ⌜ IsHalf a b r ⌝ }
+{
+    let twos = meet(a, b);
+    let ones = less(join(a, b), twos);
+    Sum {
+        ones: ones,
+        twos: twos,
+    }
+}
+
+// Three digits.
+fn add(a: u64, b: u64, c: u64) -> Sum
+    ensures { λ r. ⌜ IsSum a b c r ⌝ }
+{
+    let x = half(a, b);
+    let y = half(x.ones, c);
+    let twos = join(x.twos, y.twos);
+    Sum {
+        ones: y.ones,
+        twos: twos,
+    }
+}
+
+// The row of the lowest member; an empty one, which changes no count, where there is none.
+fn pull(rows: &[u64; 64], left: u64) -> Pulled
+    ensures { λ r. ⌜ IsPulled (now (rows .entry)) left r ⌝ }
+{
+    if left == 0 {
+        return Pulled { row: 0, left: 0 };
+    }
+    let w = lowest(left);
+    let next = rest(left);
+    Pulled {
+        row: rows[w],
+        left: next,
+    }
+}
+
+// Four rows more: by fours, since then a carry goes up once for all of them.
+fn absorb(c: Counts, p: u64, q: u64, r: u64, s: u64) -> Counts
+    requires { ⌜ Fits c p q r s ⌝ }
+    ensures { λ d. ⌜ Absorbed c p q r s d ⌝ }
+{
+    let x = add(c.s0, p, q);
+    let y = add(x.ones, r, s);
+    let z = add(c.s1, x.twos, y.twos);
+    let d2 = half(c.s2, z.twos);
+    let d3 = half(c.s3, d2.twos);
+    let d4 = half(c.s4, d3.twos);
+    let d5 = half(c.s5, d4.twos);
+    let d6 = half(c.s6, d5.twos);
+    Counts {
+        s0: y.ones,
+        s1: z.ones,
+        s2: d2.ones,
+        s3: d3.ones,
+        s4: d4.ones,
+        s5: d5.ones,
+        s6: d6.ones,
+    }
+}
+
+// In how many rows of near's members each number is.
+pub fn counted(rows: &[u64; 64], near: u64) -> Counts
+    ensures { λ c. ⌜ Counted (now (rows .entry)) near c ⌝ }
+{
+    let mut c = Counts {
+        s0: 0,
+        s1: 0,
+        s2: 0,
+        s3: 0,
+        s4: 0,
+        s5: 0,
+        s6: 0,
+    };
+    let mut left = near;
+    while left != 0 {
+        let p = pull(rows, left);
+        let q = pull(rows, p.left);
+        let r = pull(rows, q.left);
+        let s = pull(rows, r.left);
+        c = absorb(c, p.row, q.row, r.row, s.row);
+        left = s.left;
+    }
+    c
+}
+
+// One slice lower: those that have it lead the others, where there are any.
+fn narrow(m: Most, slice: u64, weight: usize) -> Most
+    requires { ⌜ m .count + weight < 128 ⌝ }
+    ensures { λ r. ⌜ IsNarrowed m slice weight r ⌝ }
+{
+    let having = meet(m.having, slice);
+    if having == 0 {
+        return m;
+    }
+    Most {
+        count: m.count + weight,
+        having: having,
+    }
+}
+
+// The greatest count in apart, and who has it there.
+pub fn greatest(c: Counts, apart: u64) -> Most
+    ensures { λ m. ⌜ IsMost c apart m ⌝ }
+{
+    let m = Most {
+        count: 0,
+        having: apart,
+    };
+    let m = narrow(m, c.s6, 64);
+    let m = narrow(m, c.s5, 32);
+    let m = narrow(m, c.s4, 16);
+    let m = narrow(m, c.s3, 8);
+    let m = narrow(m, c.s2, 4);
+    let m = narrow(m, c.s1, 2);
+    narrow(m, c.s0, 1)
+}
