@@ -1,32 +1,33 @@
 -- Laws of the choice of the pair: what the code holds of each row, and that all rows give the pair of the graph. Assumes nothing.
 use mathlib.Core.Path.{_≡_, refl, sym, ap, ap₂, _∙_, subst, fun-ext}
 use mathlib.Core.Logic.{inl, inr}
-use mathlib.Core.Bool.{Bool, true, false, not, _&&_, _||_, cond}
+use mathlib.Core.Bool.{Bool, true, false, not, _&&_, cond}
 use mathlib.Core.List.{List, [], _∷_}
 use mathlib.Core.Option.{Option, none, some}
 use Prim.Native.Nat.{ℕ, zero, suc, _+_, _≤_, _<_}
 use native.Mathlib.Numerals.{add-one}
 use native.Mathlib.Decide.{decLt}
 use native.Mathlib.Omega.{arith}
-use lib.Dec.{T, T-not, leb, ltb, le→leb}
-use lib.ListN.{length, getD}
-use borrow.Author.Tests.{lt-ltb, le-ltb, le-leb, lt-leb}
-use Rattle.sets.specs.Lists.{In, bit, count, upto, keep, members, select, cross, over}
-use Rattle.sets.specs.Set.{has, size, IsWithout, IsJoin, IsMeet, IsLess, IsLowest}
-use Rattle.sets.proofs.TestLaws.{and-l, and-r, and-t, and-true, T→true, T-ext}
+use lib.Dec.{T, eqb, ltb, eqb→eq}
+use lib.ListN.{getD}
+use borrow.Author.Tests.{lt-ltb, le-ltb}
+use Rattle.sets.specs.Lists.{In, count, upto, members, select, cross, over}
+use Rattle.sets.specs.Set.{has, size, IsWithout, IsMeet, IsLess, IsLowest}
+use Rattle.sets.proofs.TestLaws.{and-l, and-r, and-t, eqb-of, T→true, T-ext}
 use Rattle.sets.proofs.ListLaws.{count-le}
-use Rattle.sets.proofs.MemberLaws.{count-agree, members-count, members-agree, members-none, In-members}
-use Rattle.sets.proofs.SetLaws.{has-none}
+use Rattle.sets.proofs.MemberLaws.{count-few, count-agree, members-agree, members-none, In-members}
+use Rattle.counts.specs.Counts.{held, value, Counted, IsMost}
+use Rattle.counts.specs.declared.Counts.{Counts}
+use Rattle.counts.specs.declared.Most.{Most}
 use Rattle.graphs.specs.Graph.{live, gap, common, pair}
 use Rattle.graphs.specs.Held.{Held, view}
-use Rattle.graphs.specs.Acts.{lead, shared, held, Mutual, Counted, Hopeful}
+use Rattle.graphs.specs.Acts.{lead, shared, Mutual}
 use Rattle.graphs.specs.declared.Node.{Node}
 use Rattle.graphs.specs.declared.Lead.{Lead}
-use Rattle.graphs.specs.declared.Holders.{Holders}
 use Rattle.graphs.proofs.GraphLaws.{gap-chosen, of-live}
-use Rattle.graphs.proofs.LoopLaws.{Rest, rest-all, rest-next, rest-after, without-kept, over-next, over-none, members-narrow, count-narrow, count-next, leb-next}
+use Rattle.graphs.proofs.LoopLaws.{Rest, rest-all, rest-next, rest-after, over-next, over-none, members-narrow, count-narrow}
 use Rattle.graphs.proofs.HeldLaws.{held-beyond, held-members}
-use Rattle.graphs.proofs.LeadLaws.{over-append, pairs, after, over-greatest, row-lead, cross-lead, Leads, leads-over}
+use Rattle.graphs.proofs.LeadLaws.{pairs, after, over-greatest, row-lead, cross-lead, Leads, leads-over, lead-stays, lead-first}
 
 -- ---- one pair
 
@@ -49,45 +50,12 @@ module _ (rows : List ℕ) (near u v m c : ℕ) (l : Lead) (h : IsMeet near (get
 
 -- no v leads where near is too small: what u and v share are members of near
 pub lead-none : (rows : List ℕ) (near u : ℕ) (l : Lead) (vs : List ℕ) → size 64 near < l .size → over (lead (shared rows near) u) l vs ≡ l
-lead-none rows near u l [] b = refl
-lead-none rows near u l (v ∷ vs) b =
-    ap (λ (k : Lead). over (lead (shared rows near) u) k vs)
-    (ap (λ (t : Bool). cond t (record { size = suc (shared rows near v); u = u; v = v }) l) (le-ltb (l .size) (suc (shared rows near v)) (omega (arith, few))))
-    ∙ lead-none rows near u l vs b
+lead-none rows near u l vs b = lead-stays (shared rows near) u vs l (λ v i. omega (arith, few v))
   where
-    few : shared rows near v ≤ size 64 near
-    few = count-le (λ w. has near w && has (getD rows v zero) w) (has near) (upto 64) (λ w t. and-l (has near w) (has (getD rows v zero) w) t)
+    few : (v : ℕ) → shared rows near v ≤ size 64 near
+    few v = count-le (λ w. has near w && has (getD rows v zero) w) (has near) (upto 64) (λ w t. and-l (has near w) (has (getD rows v zero) w) t)
 
--- ---- who may lead
-
--- who shares too little for what leads already may be left out
-pub lead-narrow : (f : ℕ → ℕ) (u : ℕ) (p q : ℕ → Bool) (need : ℕ) → ((v : ℕ) → T (q v) → T (p v)) → ((v : ℕ) → T (p v) → ¬ T (q v) → f v < need)
-    → (n : ℕ) (l : Lead) → need ≤ l .size → (over (lead f u) l (members q n) ≡ over (lead f u) l (members p n)) × (need ≤ over (lead f u) l (members p n) .size)
-lead-narrow f u p q need into rest zero l b = (refl, b)
-lead-narrow f u p q need into rest (suc n) l b =
-    let r = lead-narrow f u p q need into rest n l b in
-    let e = go (p n) (q n) (into n) (rest n) (over (lead f u) l (members p n)) (r .1) in (
-      over-append (lead f u) l (members q n) (keep (q n) n) ∙ ap (λ (k : Lead). over (lead f u) k (keep (q n) n)) (r .0) ∙ e .0
-          ∙ sym (over-append (lead f u) l (members p n) (keep (p n) n)),
-      subst (λ (k : Lead). need ≤ k .size) (sym (over-append (lead f u) l (members p n) (keep (p n) n))) (e .1),
-    )
-  where
-    grows : (k : Lead) → need ≤ k .size → need ≤ lead f u k n .size
-    grows k b = at (decLt (k .size) (suc (f n)))
-      where
-        at : Dec (k .size < suc (f n)) → need ≤ lead f u k n .size
-        at (yes c) = rw (lt-ltb (k .size) (suc (f n)) c) (omega arith)
-        at (no c) = rw (le-ltb (k .size) (suc (f n)) (omega arith)) b
-
-    stays : (k : Lead) → need ≤ k .size → f n < need → lead f u k n ≡ k
-    stays k b c = ap (λ (t : Bool). cond t (record { size = suc (f n); u = u; v = n }) k) (le-ltb (k .size) (suc (f n)) (omega arith))
-
-    go : (a b : Bool) → (T b → T a) → (T a → ¬ T b → f n < need) → (k : Lead) → need ≤ k .size
-        → (over (lead f u) k (keep b n) ≡ over (lead f u) k (keep a n)) × (need ≤ over (lead f u) k (keep a n) .size)
-    go true true g h k c = (refl, grows k c)
-    go true false g h k c = (sym (stays k c (h tt (λ t. t))), grows k c)
-    go false true g h k c = absurd (g tt)
-    go false false g h k c = (refl, c)
+-- ---- all pairs of u at once
 
 -- the members of near in whose rows v is are those in v's row
 pub held-shared : (rows : List ℕ) (near apart v : ℕ) → Mutual rows near apart → T (has apart v) → held rows near v ≡ shared rows near v
@@ -98,82 +66,46 @@ held-shared rows near apart v m t =
     go true f = f tt
     go false f = refl
 
-pub hopeful-all : (rows : List ℕ) (near apart need : ℕ) → Hopeful rows near apart need apart
-hopeful-all rows near apart need = record { within = λ v t. t; rest = λ v t q. absurd (q t) }
+module _ (rows : List ℕ) (near apart u : ℕ) (best : Lead) (c : Counts) (m : Most) (both : Mutual rows near apart) (is : Counted rows near c) (top : IsMost c apart m) where
+  value-shared : (v : ℕ) → T (has apart v) → value c v ≡ shared rows near v
+  value-shared v t = is v ∙ held-shared rows near apart v both t
 
-pub hopeful-some : (rows : List ℕ) (near apart need j set r : ℕ) → Mutual rows near apart → j ≤ need → ((v : ℕ) → has set v ≡ leb j (held rows near v)) → IsMeet apart set r
-    → Hopeful rows near apart need r
-hopeful-some rows near apart need j set r m b e w = record {
-  within = λ v t. and-l (has apart v) (has set v) (subst T (w v) t);
-  rest = λ v t q. few v t q (decLt (shared rows near v) need);
-}
-  where
-    few : (v : ℕ) → T (has apart v) → ¬ T (has r v) → Dec (shared rows near v < need) → shared rows near v < need
-    few v t q (yes c) = c
-    few v t q (no c) =
-        absurd (q (subst T (sym (w v)) (and-t (has apart v) (has set v) t (subst T (sym (e v)) (le→leb j (held rows near v) (omega (arith, held-shared rows near apart v m t)))))))
+  -- no one has enough
+  pub most-behind : m .count < best .size → best ≡ over (lead (shared rows near) u) best (members (has apart) 64)
+  most-behind b =
+      sym (lead-stays (shared rows near) u (members (has apart) 64) best
+      (λ v i. let t = In-members (has apart) 64 v i .1 in omega (arith, top .greatest v t, value-shared v t)))
 
--- ---- who is held how often, over the members of near, lowest first
+  module _ (v : ℕ) (low : IsLowest 64 (m .having) v) where
+    apart-and : T (has apart v && eqb (value c v) (m .count))
+    apart-and = subst T (top .having v) (low .member)
 
-module _ (rows : List ℕ) (near : ℕ) where
-  abbrev times : ℕ → ℕ → ℕ
-  times left v = count (λ w. (has near w && not (has left w)) && has (getD rows w zero) v) (upto 64)
+    has-most : value c v ≡ m .count
+    has-most = eqb→eq (value c v) (m .count) (and-r (has apart v) (eqb (value c v) (m .count)) apart-and)
 
-  pub record Counting (one two three four left : ℕ) : Type 0 where
-    pub within : (x : ℕ) → T (has left x) → T (has near x)
-    pub ones : (v : ℕ) → has one v ≡ leb 1 (times left v)
-    pub twos : (v : ℕ) → has two v ≡ leb 2 (times left v)
-    pub threes : (v : ℕ) → has three v ≡ leb 3 (times left v)
-    pub fours : (v : ℕ) → has four v ≡ leb 4 (times left v)
+    pub most-few : m .count ≤ 64
+    most-few = omega (arith, has-most, is v, count-few (λ w. has near w && has (getD rows w zero) v) 64)
 
-  pub counting-start : Counting 0 0 0 0 near
-  counting-start = record {
-    within = λ x t. t;
-    ones = λ v. nothing v 1 (omega arith);
-    twos = λ v. nothing v 2 (omega arith);
-    threes = λ v. nothing v 3 (omega arith);
-    fours = λ v. nothing v 4 (omega arith);
-  }
-    where
-      nothing : (v j : ℕ) → 0 < j → has 0 v ≡ leb j (times near v)
-      nothing v j b =
-          has-none v ∙ sym (ap (leb j) (sym (members-count (λ w. (has near w && not (has near w)) && has (getD rows w zero) v) 64)
-          ∙ ap length (members-none (λ w. (has near w && not (has near w)) && has (getD rows w zero) v) 64
-          (λ w c t. let u = and-l (has near w && not (has near w)) (has (getD rows w zero) v) t in T-not (has near w) (and-r (has near w) (not (has near w)) u) (and-l (has near w) (not (has near w)) u))))
-          ∙ lt-leb j 0 b)
+    -- the lowest of those that have most leads
+    pub most-leads : best .size ≤ m .count → record { size = m .count + 1; u = u; v = v } ≡ over (lead (shared rows near) u) best (members (has apart) 64)
+    most-leads b =
+        ap (λ (k : ℕ). record { size = k; u = u; v = v }) (add-one (m .count) ∙ ap suc (sym most-shared))
+        ∙ sym (lead-first (shared rows near) u (has apart) v in-apart less (λ j t. omega (arith, top .greatest j t, value-shared j t, most-shared)) 64 (low .below) best (omega (arith, most-shared)))
+      where
+        in-apart : T (has apart v)
+        in-apart = and-l (has apart v) (eqb (value c v) (m .count)) apart-and
 
-  pub counting-end : (one two three four left : ℕ) → left ≡ 0 → Counting one two three four left
-      → Counted rows near (record { one = one; two = two; three = three; four = four })
-  counting-end one two three four left e i = record {
-    ones = λ v. i .ones v ∙ ap (leb 1) (all v);
-    twos = λ v. i .twos v ∙ ap (leb 2) (all v);
-    threes = λ v. i .threes v ∙ ap (leb 3) (all v);
-    fours = λ v. i .fours v ∙ ap (leb 4) (all v);
-  }
-    where
-      all : (v : ℕ) → times left v ≡ held rows near v
-      all v =
-          count-agree 64 (λ w. (has near w && not (has left w)) && has (getD rows w zero) v) (λ w. has near w && has (getD rows w zero) v)
-          (λ w b. ap (λ (t : Bool). (has near w && not t) && has (getD rows w zero) v) (ap (λ (s : ℕ). has s w) e ∙ has-none w) ∙ ap (λ (t : Bool). t && has (getD rows w zero) v) (and-true (has near w)))
+        most-shared : shared rows near v ≡ m .count
+        most-shared = sym (value-shared v in-apart) ∙ has-most
 
-  module _ (one two three four left w next two⁺ three⁺ four⁺ one′ two′ three′ four′ : ℕ) (i : Counting one two three four left) (l : IsLowest 64 left w)
-      (m4 : IsMeet three (getD rows w zero) four⁺) (j4 : IsJoin four four⁺ four′) (m3 : IsMeet two (getD rows w zero) three⁺) (j3 : IsJoin three three⁺ three′)
-      (m2 : IsMeet one (getD rows w zero) two⁺) (j2 : IsJoin two two⁺ two′) (j1 : IsJoin one (getD rows w zero) one′) (out : IsWithout left w next) where
-    one-more : (v : ℕ) → times left v + bit (has (getD rows w zero) v) ≡ times next v
-    one-more v = count-next near left w next (λ x. has (getD rows x zero) v) (i .within) l out
-
-    step : (v j : ℕ) (a b : Bool) → a ≡ leb (suc j) (times left v) → b ≡ leb j (times left v) → (a || (b && has (getD rows w zero) v)) ≡ leb (suc j) (times next v)
-    step v j a b p q =
-        ap₂ (λ (x y : Bool). x || (y && has (getD rows w zero) v)) p q ∙ leb-next j (times left v) (has (getD rows w zero) v) ∙ ap (leb (suc j)) (one-more v)
-
-    pub counting-next : Counting one′ two′ three′ four′ next
-    counting-next = record {
-      within = λ x t. i .within x (without-kept left w next x out t .0);
-      ones = λ v. j1 v ∙ step v 0 (has one v) true (i .ones v) (sym (le-leb 0 (times left v) (omega arith)));
-      twos = λ v. j2 v ∙ ap (λ (t : Bool). has two v || t) (m2 v) ∙ step v 1 (has two v) (has one v) (i .twos v) (i .ones v);
-      threes = λ v. j3 v ∙ ap (λ (t : Bool). has three v || t) (m3 v) ∙ step v 2 (has three v) (has two v) (i .threes v) (i .twos v);
-      fours = λ v. j4 v ∙ ap (λ (t : Bool). has four v || t) (m4 v) ∙ step v 3 (has four v) (has three v) (i .fours v) (i .threes v);
-    }
+        less : (j : ℕ) → j < v → T (has apart j) → shared rows near j < shared rows near v
+        less j a t = go (decLt (shared rows near j) (shared rows near v))
+          where
+            go : Dec (shared rows near j < shared rows near v) → shared rows near j < shared rows near v
+            go (yes d) = d
+            go (no d) =
+                let e : value c j ≡ m .count = omega (arith, top .greatest j t, value-shared j t, most-shared) in
+                absurd (low .least j a (subst T (sym (top .having j)) (and-t (has apart j) (eqb (value c j) (m .count)) t (eqb-of (value c j) (m .count) e))))
 
 -- ---- one row
 

@@ -6,11 +6,14 @@ use mathlib.Core.List.{List, [], _∷_, _++_, map}
 use mathlib.Core.Option.{Option, none, some}
 use mathlib.Core.Logic.{inl, inr}
 use Prim.Native.Nat.{ℕ, zero, suc, _≤_, _<_}
+use native.Mathlib.Nat.{not-suc-le-zero}
+use native.Mathlib.Decide.{ℕ-discrete, decLt}
 use native.Mathlib.Omega.{arith}
 use lib.Dec.{T, leb, ltb}
 use borrow.Author.Tests.{leb-true, leb-false, le-leb, lt-leb, lt-ltb, le-ltb}
 use Rattle.sets.specs.Lists.{In, table, keep, members, put, select, better, greatest, cross, over}
 use Rattle.sets.proofs.ListLaws.{table-suc}
+use Rattle.sets.proofs.MemberLaws.{In-members}
 use Rattle.graphs.specs.Acts.{lead}
 use Rattle.graphs.specs.declared.Lead.{Lead}
 
@@ -127,3 +130,47 @@ pub leads-over : (f : ℕ × ℕ → ℕ) (s : ℕ → ℕ) (u : ℕ) (vs : List
     → Leads f (over (lead s u) l vs) (over (after f) o (pairs u vs))
 leads-over f s u [] e l o h = h
 leads-over f s u (v ∷ vs) e l o h = leads-over f s u vs (λ w i. e w (inr i)) (lead s u l v) (after f o (u, v)) (lead-after f s u v l o (e v (inl refl)) h)
+
+-- ---- whom the code may pass over, and who leads in the end
+
+module _ (f : ℕ → ℕ) (u : ℕ) where
+  taken : (l : Lead) (v : ℕ) → l .size ≤ f v → lead f u l v ≡ record { size = suc (f v); u = u; v = v }
+  taken l v b = ap (λ (t : Bool). cond t (record { size = suc (f v); u = u; v = v }) l) (lt-ltb (l .size) (suc (f v)) (omega arith))
+
+  kept : (l : Lead) (v : ℕ) → f v < l .size → lead f u l v ≡ l
+  kept l v b = ap (λ (t : Bool). cond t (record { size = suc (f v); u = u; v = v }) l) (le-ltb (l .size) (suc (f v)) b)
+
+  -- none of vs has more than what leads already
+  pub lead-stays : (vs : List ℕ) (l : Lead) → ((v : ℕ) → In v vs → f v < l .size) → over (lead f u) l vs ≡ l
+  lead-stays [] l h = refl
+  lead-stays (v ∷ vs) l h = ap (λ (k : Lead). over (lead f u) k vs) (kept l v (h v (inl refl))) ∙ lead-stays vs l (λ w i. h w (inr i))
+
+  -- where each of vs has less than k, what leads does not pass k
+  lead-below : (vs : List ℕ) (l : Lead) (k : ℕ) → ((v : ℕ) → In v vs → f v < k) → l .size ≤ k → over (lead f u) l vs .size ≤ k
+  lead-below [] l k h b = b
+  lead-below (v ∷ vs) l k h b = lead-below vs (lead f u l v) k (λ w i. h w (inr i)) (at (decLt (f v) (l .size)))
+    where
+      at : Dec (f v < l .size) → lead f u l v .size ≤ k
+      at (yes c) = rw (kept l v c) b
+      at (no c) = rw (taken l v (omega arith)) (h v (inl refl))
+
+  -- the first who has most leads, where it has not less than what leads before
+  pub lead-first : (p : ℕ → Bool) (w : ℕ) → T (p w) → ((j : ℕ) → j < w → T (p j) → f j < f w) → ((j : ℕ) → T (p j) → f j ≤ f w)
+      → (n : ℕ) → w < n → (l : Lead) → l .size ≤ f w → over (lead f u) l (members p n) ≡ record { size = suc (f w); u = u; v = w }
+  lead-first p w t less most zero a l b = absurd (not-suc-le-zero a)
+  lead-first p w t less most (suc n) a l b =
+      over-append (lead f u) l (members p n) (keep (p n) n) ∙ go (ℕ-discrete w n) (λ c. lead-first p w t less most n c l b)
+    where
+      none : (b : Bool) → (T b → f n ≤ f w) → over (lead f u) (record { size = suc (f w); u = u; v = w }) (keep b n) ≡ record { size = suc (f w); u = u; v = w }
+      none true c = kept (record { size = suc (f w); u = u; v = w }) n (omega (arith, c tt))
+      none false c = refl
+
+      one : (b : Bool) → T b → over (lead f u) (over (lead f u) l (members p w)) (keep b w) ≡ record { size = suc (f w); u = u; v = w }
+      one true c =
+          taken (over (lead f u) l (members p w)) w (lead-below (members p w) l (f w) (λ j i. let q = In-members p w j i in less j (q .0) (q .1)) b)
+      one false c = absurd c
+
+      go : Dec (w ≡ n) → (w < n → over (lead f u) l (members p n) ≡ record { size = suc (f w); u = u; v = w })
+          → over (lead f u) (over (lead f u) l (members p n)) (keep (p n) n) ≡ record { size = suc (f w); u = u; v = w }
+      go (yes e) r = ap (λ (k : ℕ). over (lead f u) (over (lead f u) l (members p k)) (keep (p k) k)) (sym e) ∙ one (p w) t
+      go (no d) r = ap (λ (k : Lead). over (lead f u) k (keep (p n) n)) (r (omega arith)) ∙ none (p n) (most n)

@@ -13,16 +13,14 @@ use borrow.Author.Tests.{ne-eqb, lt-ltb, le-ltb, le-leb, lt-leb}
 use Rattle.sets.specs.Lists.{bit, count, upto, keep, members, over}
 use Rattle.sets.specs.Set.{has, size, IsWithout, IsLowest}
 use Rattle.sets.proofs.TestLaws.{and-l, and-r, and-t, and-true, T-ext}
-use Rattle.sets.proofs.ListLaws.{length-table}
-use Rattle.sets.proofs.MemberLaws.{count-agree, count-out, members-count, members-none}
+use Rattle.sets.proofs.MemberLaws.{count-few, count-agree, count-out, members-count, members-none}
 use Rattle.sets.proofs.SetLaws.{has-none, size-without, members-cons}
-use Rattle.graphs.proofs.PairLaws.{of-ne, ne-of, count-length}
+use Rattle.graphs.proofs.PairLaws.{of-ne, ne-of}
 
 -- ---- one member fewer
 
 pub size-le : (n s : ℕ) → size n s ≤ n
-unfolding upto
-size-le n s = omega (arith, count-length (has s) (upto n), length-table (λ i. i) n)
+size-le n s = count-few (has s) n
 
 pub left-falls : (s w r : ℕ) → IsLowest 64 s w → IsWithout s w r → size 64 r < size 64 s
 left-falls s w r l h = omega (arith, size-without 64 s w r (l .below) (l .member) h)

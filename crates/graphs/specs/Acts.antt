@@ -9,17 +9,14 @@
 --   SeparatedRows rows u v r   : of every node with these rows, r are the rows once u and v are adjacent
 --   shared rows near v   : how many members of near are in the row of v
 --   lead f u l v         : the pair u, v, where f v is more than what leads so far, else what leads
---   held rows near v     : how many members of near have v in their row
 --   Mutual rows near apart : of a member of near and one of apart each is in the other's row, or neither
---   Counted rows near h  : h has the vertices that at least one, two, three and four members of near have in their row
---   Hopeful rows near apart need r : r is a part of apart, and who is left out shares less than is needed with near
 --
 -- Assumes nothing.
 use mathlib.Core.Path.{_≡_}
 use mathlib.Core.Bool.{_&&_, _||_, cond}
 use mathlib.Core.List.{List}
-use Prim.Native.Nat.{ℕ, zero, suc, _<_}
-use lib.Dec.{T, eqb, leb, ltb}
+use Prim.Native.Nat.{ℕ, zero, suc}
+use lib.Dec.{T, eqb, ltb}
 use lib.ListN.{length, getD}
 use Rattle.sets.specs.Lists.{count, upto}
 use Rattle.sets.specs.Set.{has, IsWithout}
@@ -29,7 +26,6 @@ use Rattle.graphs.specs.Good.{Chosen}
 use Rattle.graphs.specs.Held.{Held, view, node, holding}
 use Rattle.graphs.specs.declared.Node.{Node}
 use Rattle.graphs.specs.declared.Lead.{Lead}
-use Rattle.graphs.specs.declared.Holders.{Holders}
 
 pub record IsRoot (rows : List ℕ) (r : Node) : Type 0 where
   pub held : Held r
@@ -68,18 +64,5 @@ shared rows near v = count (λ w. has near w && has (getD rows v zero) w) (upto 
 abbrev pub lead : (ℕ → ℕ) → ℕ → Lead → ℕ → Lead
 lead f u l v = cond (ltb (l .size) (suc (f v))) (record { size = suc (f v); u = u; v = v }) l
 
-abbrev pub held : List ℕ → ℕ → ℕ → ℕ
-held rows near v = count (λ w. has near w && has (getD rows w zero) v) (upto 64)
-
 abbrev pub Mutual : List ℕ → ℕ → ℕ → Type 0
 Mutual rows near apart = (w v : ℕ) → T (has near w) → T (has apart v) → has (getD rows w zero) v ≡ has (getD rows v zero) w
-
-pub record Counted (rows : List ℕ) (near : ℕ) (h : Holders) : Type 0 where
-  pub ones : (v : ℕ) → has (h .one) v ≡ leb 1 (held rows near v)
-  pub twos : (v : ℕ) → has (h .two) v ≡ leb 2 (held rows near v)
-  pub threes : (v : ℕ) → has (h .three) v ≡ leb 3 (held rows near v)
-  pub fours : (v : ℕ) → has (h .four) v ≡ leb 4 (held rows near v)
-
-pub record Hopeful (rows : List ℕ) (near apart need r : ℕ) : Type 0 where
-  pub within : (v : ℕ) → T (has r v) → T (has apart v)
-  pub rest : (v : ℕ) → T (has apart v) → ¬ T (has r v) → shared rows near v < need

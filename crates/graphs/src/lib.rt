@@ -1,10 +1,13 @@
 // A node of the walk, held in words. Its rows are lent where they are only read, and changed in place; each contract says, by the view, which graph
 // is held.
+use counts::counted;
+use counts::greatest;
 use sets::below;
 use sets::join;
 use sets::less;
 use sets::lowest;
 use sets::meet;
+use sets::rest;
 use sets::size;
 use sets::with;
 use sets::without;
@@ -16,7 +19,7 @@ ghost use Rattle.sets.specs.Set.{has as member};
 ghost use Rattle.clashes.specs.Matrix.{Sound};
 ghost use Rattle.graphs.specs.Graph.{to, merge, separate, pair, complete, grouping};
 ghost use Rattle.graphs.specs.Held.{Held, view, choiceOf, Holds, Each};
-ghost use Rattle.graphs.specs.Acts.{IsRoot, AtPair, Becomes, Linked, Renamed, MergedRows, SeparatedRows, lead, shared, Mutual, Counted, Hopeful};
+ghost use Rattle.graphs.specs.Acts.{IsRoot, Linked, Renamed, MergedRows, SeparatedRows, lead, shared, Mutual};
 
 // How many entries there are, the live vertices, a row of neighbours for each, and which live vertex stands for each entry.
 pub struct Node {
@@ -37,14 +40,6 @@ pub struct Lead {
     pub size: usize,
     pub u: usize,
     pub v: usize,
-}
-
-// Sets of vertices that at least one, two, three and four rows have.
-struct Holders {
-    pub one: u64,
-    pub two: u64,
-    pub three: u64,
-    pub four: u64,
 }
 
 // The node of a list: every entry stands for itself.
@@ -153,70 +148,15 @@ pub fn is_complete(h: Node) -> bool
     true
 }
 
-// Which vertices one, two, three and four rows of near's members have.
-fn tally(rows: &[u64; 64], near: u64) -> Holders
-    ensures { λ r. ⌜ Counted (now (rows .entry)) near r ⌝ }
-{
-    let mut one: u64 = 0;
-    let mut two: u64 = 0;
-    let mut three: u64 = 0;
-    let mut four: u64 = 0;
-    let mut left = near;
-    while left != 0 {
-        let w = lowest(left);
-        let row = rows[w];
-        four = join(four, meet(three, row));
-        three = join(three, meet(two, row));
-        two = join(two, meet(one, row));
-        one = join(one, row);
-        left = without(left, w);
-    }
-    Holders {
-        one: one,
-        two: two,
-        three: three,
-        four: four,
-    }
-}
-
-// Of apart all that share as many neighbours with near as are needed, and perhaps others: where near is not small beside apart, a tally costs more
-// than it spares.
-fn hopeful(rows: &[u64; 64], near: u64, apart: u64, need: usize) -> u64
-    requires { ⌜ Mutual (now rows) near apart ⌝ }
-    ensures { λ r. ⌜ Hopeful (now (rows .entry)) near apart need r ⌝ }
-{
-    if need == 0 {
-        return apart;
-    }
-    if size(apart) / 3 < size(near) {
-        return apart;
-    }
-    let h = tally(rows, near);
-    if need == 1 {
-        return meet(apart, h.one);
-    }
-    if need == 2 {
-        return meet(apart, h.two);
-    }
-    if need == 3 {
-        return meet(apart, h.three);
-    }
-    meet(apart, h.four)
-}
-
-// The leading pair after u with each vertex of apart: near are u's neighbours. None of them leads where near is too small.
-fn led(rows: &[u64; 64], u: usize, near: u64, apart: u64, best: Lead) -> Lead
-    requires { ⌜ Mutual (now rows) near apart ⌝ }
+// The leading pair after u with each vertex of apart: near are u's neighbours. Pair by pair.
+fn by_pairs(rows: &[u64; 64], u: usize, near: u64, apart: u64, best: Lead) -> Lead
     ensures { λ r. ⌜ r ≡ over (lead (shared (now (rows .entry)) near) u) best (members (member apart) 64) ⌝ }
 {
-    if size(near) < best.size {
-        return best;
-    }
-    let mut left = hopeful(rows, near, apart, best.size);
     let mut best = best;
+    let mut left = apart;
     while left != 0 {
         let v = lowest(left);
-        left = without(left, v);
+        left = rest(left);
         let common = size(meet(near, rows[v])) + 1;
         if best.size < common {
             best = Lead {
@@ -227,6 +167,33 @@ fn led(rows: &[u64; 64], u: usize, near: u64, apart: u64, best: Lead) -> Lead
         }
     }
     best
+}
+
+// The same. None of them leads where near is too small; where apart is small beside near, pairs cost less than counts.
+fn led(rows: &[u64; 64], u: usize, near: u64, apart: u64, best: Lead) -> Lead
+    requires { ⌜ Mutual (now rows) near apart ⌝ }
+    ensures { λ r. ⌜ r ≡ over (lead (shared (now (rows .entry)) near) u) best (members (member apart) 64) ⌝ }
+{
+    if apart == 0 {
+        return best;
+    }
+    let degree = size(near);
+    if degree < best.size {
+        return best;
+    }
+    if 2 * size(apart) <= degree + 8 {
+        return by_pairs(rows, u, near, apart, best);
+    }
+    let m = greatest(counted(rows, near), apart);
+    if m.count < best.size {
+        return best;
+    }
+    let v = lowest(m.having);
+    Lead {
+        size: m.count + 1,
+        u: u,
+        v: v,
+    }
 }
 
 // Of the non-adjacent live u < v the pair with most common neighbours, then smallest u, then smallest v.

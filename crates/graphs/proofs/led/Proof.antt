@@ -1,108 +1,93 @@
--- `graphs::led` meets its contract: what leads, and the vertices that are left, give what all give. Assumes nothing.
-use mathlib.Core.Path.{_≡_, sym, _∙_}
-use native.Mathlib.Nat.{le-refl}
+-- `graphs::led` meets its contract: pair by pair, or by the counts of all. Assumes nothing.
+use mathlib.Core.Path.{sym}
 use native.Mathlib.Omega.{arith}
-use Rattle.sets.specs.Lists.{members, over}
-use Rattle.sets.specs.Set.{has, size}
+use Rattle.sets.specs.Lists.{members}
+use Rattle.sets.specs.Set.{has}
 use Rattle.graphs.specs.Acts.{lead, shared}
-use Rattle.graphs.proofs.LoopLaws.{size-le, left-falls, over-next, over-none}
-use Rattle.graphs.proofs.ChooseLaws.{lead-taken, lead-kept, lead-none, lead-narrow}
+use Rattle.graphs.proofs.LoopLaws.{size-le, over-none}
+use Rattle.graphs.proofs.ChooseLaws.{lead-none, most-behind, most-few, most-leads}
 use borrow.Author.Needs.{needs}
 use Rattle.graphs.proofs.led.Statement.{statement}
 use Rattle.graphs.proofs.led.Tie as tie
 
-abbrev Inv-loop : tie.InvT-loop
-Inv-loop rows u near apart left₀ best₀ left best = over (lead (shared rows near) u) best (members (has left) 64) ≡ over (lead (shared rows near) u) best₀ (members (has apart) 64)
+returns : tie.Need-returns
+returns c =
+    let a = c .before .args in
+    sym (over-none (lead (shared (a .rows .now) (a .near)) (a .u)) (a .best) (a .apart) (c .if1 .taken))
 
-abbrev μ-loop : tie.MeasureT-loop
-μ-loop rows u near apart left₀ best₀ left best = size 64 left
-
-size-requires : tie.Need-size-requires Inv-loop μ-loop
+size-requires : tie.Need-size-requires
 size-requires c κs = search needs
 
-returns : tie.Need-returns Inv-loop μ-loop
-returns c =
-    let a = c .before .before .before .args in
-    sym (lead-none (a .rows .now) (a .near) (a .u) (a .best) (members (has (a .apart)) 64) (omega (arith, c .if1 .taken, c .before .before .size .ensures)))
-
-hopeful-requires : tie.Need-hopeful-requires Inv-loop μ-loop
-hopeful-requires c κs = c .before .before .before .pre
-
-loop-holds : tie.Need-loop-holds Inv-loop μ-loop
-loop-holds c =
+returns-2 : tie.Need-returns-2
+returns-2 c =
     let a = c .before .before .before .before .args in
-    lead-narrow (shared (a .rows .now) (a .near)) (a .u) (has (a .apart)) (has (c .hopeful .result)) (a .best .size) (c .hopeful .ensures .within) (c .hopeful .ensures .rest) 64 (a .best)
-    (le-refl (a .best .size)) .0
+    sym (lead-none (a .rows .now) (a .near) (a .u) (a .best) (members (has (a .apart)) 64) (omega (arith, c .if2 .taken, c .before .before .size .ensures)))
 
-lowest-requires : tie.Need-lowest-requires Inv-loop μ-loop
-lowest-requires c κs = search needs
-
-without-requires : tie.Need-without-requires Inv-loop μ-loop
-without-requires c κs = search needs
-
-mul-meet : tie.Need-mul-meet Inv-loop μ-loop
-mul-meet c = search needs
-
-element-copy-out-meet : tie.Need-element-copy-out-meet Inv-loop μ-loop
-element-copy-out-meet c = search needs
-
-meet-requires : tie.Need-meet-requires Inv-loop μ-loop
-meet-requires c κs = search needs
-
-size-requires-2 : tie.Need-size-requires-2 Inv-loop μ-loop
+size-requires-2 : tie.Need-size-requires-2
 size-requires-2 c κs = search needs
 
-add-common : tie.Need-add-common Inv-loop μ-loop
-add-common c = omega (arith, c .size2 .ensures, size-le 64 (c .before .meet .result))
+mul-if3 : tie.Need-mul-if3
+mul-if3 c = omega (arith, c .size2 .ensures, size-le 64 (c .before .before .before .before .before .args .apart))
 
-loop-less : tie.Need-loop-less Inv-loop μ-loop
-loop-less c = left-falls _ _ _ (c .before .before .before .before .before .before .lowest .ensures) (c .before .before .before .before .before .without .ensures)
+add-if3 : tie.Need-add-if3
+add-if3 c = omega (arith, c .before .before .before .size .ensures, size-le 64 (c .before .before .before .before .before .args .near))
 
-loop-again : tie.Need-loop-again Inv-loop μ-loop
-loop-again c =
-    let a = c .before .before .before .before .before .before .before .before .before .before .before .before .before .args in
-    let l = c .before .before .before .before .before .before .before .before .loop in
-    let v = c .before .before .before .before .before .before .lowest in
-    over-next (lead (shared (a .rows .now) (a .near)) (a .u)) (l .best) _ (l .left) (v .result) (c .before .before .before .before .before .without .result) (v .ensures) (c .before .before .before .before .before .without .ensures)
-    (lead-taken (a .rows .now) (a .near) (a .u) (v .result) (c .before .before .before .meet .result) (c .before .before .size2 .result) (l .best) (c .before .before .before .meet .ensures) (c .before .before .size2 .ensures) (c .if2 .taken))
-    ∙ l .inv
+by-pairs-requires : tie.Need-by-pairs-requires
+by-pairs-requires c κs = search needs
 
-loop-less-2 : tie.Need-loop-less-2 Inv-loop μ-loop
-loop-less-2 c = left-falls _ _ _ (c .before .before .before .before .before .before .lowest .ensures) (c .before .before .before .before .before .without .ensures)
+returns-3 : tie.Need-returns-3
+returns-3 c = search needs
 
-loop-again-2 : tie.Need-loop-again-2 Inv-loop μ-loop
-loop-again-2 c =
-    let a = c .before .before .before .before .before .before .before .before .before .before .before .before .before .args in
-    let l = c .before .before .before .before .before .before .before .before .loop in
-    let v = c .before .before .before .before .before .before .lowest in
-    over-next (lead (shared (a .rows .now) (a .near)) (a .u)) (l .best) _ (l .left) (v .result) (c .before .before .before .before .before .without .result) (v .ensures) (c .before .before .before .before .before .without .ensures)
-    (lead-kept (a .rows .now) (a .near) (a .u) (v .result) (c .before .before .before .meet .result) (c .before .before .size2 .result) (l .best) (c .before .before .before .meet .ensures) (c .before .before .size2 .ensures) (c .if2 .left))
-    ∙ l .inv
+counted-requires : tie.Need-counted-requires
+counted-requires c κs = search needs
 
-returns-2 : tie.Need-returns-2 Inv-loop μ-loop
-returns-2 c =
-    let a = c .before .before .before .before .before .before .args in
-    sym (over-none (lead (shared (a .rows .now) (a .near)) (a .u)) (c .before .loop .best) (c .before .loop .left) (c .loop-test .left)) ∙ c .before .loop .inv
+greatest-requires : tie.Need-greatest-requires
+greatest-requires c κs = search needs
+
+returns-4 : tie.Need-returns-4
+returns-4 c =
+    let s = c .before .before .before .before .before .before .before .before .before .before .before in
+    let a = s .args in
+    let k = c .before .before .before .before .counted in
+    let m = c .before .before .before .greatest in
+    most-behind (a .rows .now) (a .near) (a .apart) (a .u) (a .best) (k .result) (m .result) (s .pre) (k .ensures) (m .ensures) (c .if4 .taken)
+
+lowest-requires : tie.Need-lowest-requires
+lowest-requires c κs = c .before .before .before .greatest .ensures .some (c .before .before .before .before .before .before .before .before .before .before .if1 .left)
+
+add-t10 : tie.Need-add-t10
+add-t10 c =
+    let s = c .before .before .before .before .before .before .before .before .before .before .before .before .before in
+    let a = s .args in
+    let k = c .before .before .before .before .before .before .counted in
+    let m = c .before .before .before .before .before .greatest in
+    let few = most-few (a .rows .now) (a .near) (a .apart) (a .u) (a .best) (k .result) (m .result) (s .pre) (k .ensures) (m .ensures) (c .before .lowest .result) (c .before .lowest .ensures) in
+    omega arith
+
+returns-5 : tie.Need-returns-5
+returns-5 c =
+    let s = c .before .before .before .before .before .before .before .before .before .before .before .before .before in
+    let a = s .args in
+    let k = c .before .before .before .before .before .before .counted in
+    let m = c .before .before .before .before .before .greatest in
+    most-leads (a .rows .now) (a .near) (a .apart) (a .u) (a .best) (k .result) (m .result) (s .pre) (k .ensures) (m .ensures) (c .before .lowest .result) (c .before .lowest .ensures)
+    (c .before .before .if4 .left)
 
 pub led-spec : {M : Type 1} → statement M
 led-spec =
     tie.close
     (tie.spec
-    Inv-loop
-    μ-loop
-    size-requires
     returns
-    hopeful-requires
-    loop-holds
-    lowest-requires
-    without-requires
-    mul-meet
-    element-copy-out-meet
-    meet-requires
+    size-requires
+    returns-2
     size-requires-2
-    add-common
-    loop-less
-    loop-again
-    loop-less-2
-    loop-again-2
-    returns-2)
+    mul-if3
+    add-if3
+    by-pairs-requires
+    returns-3
+    counted-requires
+    greatest-requires
+    returns-4
+    lowest-requires
+    add-t10
+    returns-5)
