@@ -2,5 +2,6 @@
 pub mod NumberLaws
 pub mod DivisionLaws
 pub mod ColouringLaws
+pub mod OneSidedLaws
 pub mod MatrixLaws
 pub mod Meaning

@@ -2,6 +2,9 @@
 use sets::below;
 use sets::has;
 use sets::less;
+use sets::lowest;
+use sets::meet;
+use sets::rest;
 ghost use mathlib.Core.Path.{_≡_};
 ghost use mathlib.Core.Bool.{true, false};
 ghost use Prim.Native.Nat.{_<_, _≤_};
@@ -48,22 +51,19 @@ fn first_itself(rows: &[u64]) -> usize
     i
 }
 
-// Has row i a bit whose row lacks bit i?
+// Has row i a bit whose row lacks bit i? Then not all the rows of its bits have bit i.
 fn is_one_sided(rows: &[u64], i: usize) -> bool
     requires { ⌜ (length (now rows) ≤ 64) × (i < length (now rows)) ⌝ }
     ensures { λ r. ⌜ (r ≡ true → HasOneSided (now (rows .entry)) i) × (r ≡ false → HasOneSided (now (rows .entry)) i → ⊥) ⌝ }
 {
-    let row = rows[i];
-    let mut j: usize = 0;
-    while j < rows.len() {
-        if has(row, j) {
-            if !has(rows[j], i) {
-                return true;
-            }
-        }
-        j += 1;
+    let mut all = below(64);
+    let mut left = meet(rows[i], below(rows.len()));
+    while left != 0 {
+        let j = lowest(left);
+        all = meet(all, rows[j]);
+        left = rest(left);
     }
-    false
+    !has(all, i)
 }
 
 // The lowest row with a bit that is not returned, or n.
@@ -71,14 +71,14 @@ fn first_one_sided(rows: &[u64]) -> usize
     requires { ⌜ length (now rows) ≤ 64 ⌝ }
     ensures { λ r. ⌜ FirstRow (HasOneSided (now (rows .entry))) (length (now (rows .entry))) r ⌝ }
 {
-    let mut i: usize = 0;
-    while i < rows.len() {
-        if is_one_sided(rows, i) {
-            return i;
+    let mut row: usize = 0;
+    while row < rows.len() {
+        if is_one_sided(rows, row) {
+            return row;
         }
-        i += 1;
+        row += 1;
     }
-    i
+    row
 }
 
 // Is this the matrix of a clash list? If not, by which number, and at which row?

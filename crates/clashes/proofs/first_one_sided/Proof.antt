@@ -1,4 +1,4 @@
--- `clashes::first_one_sided` meets its contract: no row before i has a bit that is not returned. Assumes nothing.
+-- `clashes::first_one_sided` meets its contract: no row before this one has a bit that is not returned. Assumes nothing.
 use Prim.Native.Nat.{ℕ, _≤_, _<_, _-_}
 use native.Mathlib.Omega.{arith}
 use lib.ListN.{length}
@@ -8,10 +8,10 @@ use Rattle.clashes.proofs.first_one_sided.Statement.{statement}
 use Rattle.clashes.proofs.first_one_sided.Tie as tie
 
 abbrev Inv-loop : tie.InvT-loop
-Inv-loop rows i₀ i = (i ≤ length rows) × NoRow (HasOneSided rows) i
+Inv-loop rows row₀ row = (row ≤ length rows) × NoRow (HasOneSided rows) row
 
 abbrev μ-loop : tie.MeasureT-loop
-μ-loop rows i₀ i = length rows - i
+μ-loop rows row₀ row = length rows - row
 
 loop-holds : tie.Need-loop-holds Inv-loop μ-loop
 loop-holds c = (omega arith, λ j b. absurd (omega arith))
@@ -26,8 +26,8 @@ returns c = record {
   earlier = c .before .before .before .loop .inv .1;
 }
 
-add-i : tie.Need-add-i Inv-loop μ-loop
-add-i c = omega arith
+add-row : tie.Need-add-row Inv-loop μ-loop
+add-row c = omega arith
 
 loop-less : tie.Need-loop-less Inv-loop μ-loop
 loop-less c = omega arith
@@ -40,4 +40,4 @@ returns-2 c = record { most = omega arith; here = λ b. absurd (omega arith); ea
 
 pub first-one-sided-spec : {M : Type 1} → statement M
 first-one-sided-spec =
-    tie.close (tie.spec Inv-loop μ-loop loop-holds is-one-sided-requires returns add-i loop-less loop-again returns-2)
+    tie.close (tie.spec Inv-loop μ-loop loop-holds is-one-sided-requires returns add-row loop-less loop-again returns-2)

@@ -1,79 +1,109 @@
--- `clashes::is_one_sided` meets its contract: every bit of row i before j is returned. Assumes nothing.
+-- `clashes::is_one_sided` meets its contract. The loop's invariant: `all` has what the rows of the bits of row i have that are done. The measure:
+-- what is left. Assumes nothing.
 use mathlib.Core.Path.{_≡_, refl, sym, ap, _∙_, subst}
-use mathlib.Core.Logic.{_⊎_, inl, inr, ⊎-elim}
 use mathlib.Core.Bool.{Bool, true, false}
-use mathlib.Core.List.{List}
-use Prim.Native.Nat.{ℕ, _≤_, _<_, _-_}
+use Prim.Native.Nat.{ℕ, _≤_, _<_}
 use native.Mathlib.Omega.{arith}
 use lib.Dec.{T}
 use lib.ListN.{length, getD}
-use borrow.Author.Count.{below-more}
 use borrow.Author.Needs.{needs}
 use borrow.Author.Tests.{not-true, not-false}
-use Rattle.clashes.specs.Matrix.{matrix}
+use Rattle.sets.specs.Set.{has, size}
+use Rattle.sets.proofs.SetLaws.{size-without}
+use Rattle.clashes.proofs.OneSidedLaws.{Looked, looked-start, looked-again, looked-end}
 use Rattle.clashes.proofs.is_one_sided.Statement.{statement}
 use Rattle.clashes.proofs.is_one_sided.Tie as tie
 
--- bit j of row i, if it is there, is returned
-abbrev Returned : List ℕ → ℕ → ℕ → Type 0
-Returned rows i j = T (matrix rows i j) → T (matrix rows j i)
-
 abbrev Inv-loop : tie.InvT-loop
-Inv-loop rows i row j₀ j = (row ≡ getD rows i 0) × (j ≤ length rows) × ((k : ℕ) → k < j → Returned rows i k)
+Inv-loop rows i all₀ left₀ all left = Looked rows i all left
 
 abbrev μ-loop : tie.MeasureT-loop
-μ-loop rows i row j₀ j = length rows - j
+μ-loop rows i all₀ left₀ all left = size 64 left
 
-mul-row : tie.Need-mul-row Inv-loop μ-loop
-mul-row c = search needs
+below-requires : tie.Need-below-requires Inv-loop μ-loop
+below-requires c κs = search needs
 
-shared-slice-read-row : tie.Need-shared-slice-read-row Inv-loop μ-loop
-shared-slice-read-row c = search needs
+mul-meet : tie.Need-mul-meet Inv-loop μ-loop
+mul-meet c = search needs
+
+shared-slice-read-meet : tie.Need-shared-slice-read-meet Inv-loop μ-loop
+shared-slice-read-meet c = search needs
+
+below-requires-2 : tie.Need-below-requires-2 Inv-loop μ-loop
+below-requires-2 c κs = search needs
+
+meet-requires : tie.Need-meet-requires Inv-loop μ-loop
+meet-requires c κs = search needs
 
 loop-holds : tie.Need-loop-holds Inv-loop μ-loop
-loop-holds c = (refl, omega arith, λ k b. absurd (omega arith))
+loop-holds c =
+    let a = c .before .before .before .before .before in
+    looked-start (a .args .rows .now) (a .args .i) 64 (c .before .before .before .below .result) (c .before .below2 .result) (c .meet .result) (omega arith)
+    (c .before .before .before .below .ensures) (c .before .below2 .ensures) (c .meet .ensures)
+
+lowest-requires : tie.Need-lowest-requires Inv-loop μ-loop
+lowest-requires c κs = search needs
+
+mul-meet-2 : tie.Need-mul-meet-2 Inv-loop μ-loop
+mul-meet-2 c = search needs
+
+shared-slice-read-meet-2 : tie.Need-shared-slice-read-meet-2 Inv-loop μ-loop
+shared-slice-read-meet-2 c = c .before .before .before .loop .inv .bits (c .before .lowest .result) (c .before .lowest .ensures .member) .0
+
+meet-requires-2 : tie.Need-meet-requires-2 Inv-loop μ-loop
+meet-requires-2 c κs = search needs
+
+rest-requires : tie.Need-rest-requires Inv-loop μ-loop
+rest-requires c κs = search needs
+
+loop-less : tie.Need-loop-less Inv-loop μ-loop
+loop-less c =
+    let w = c .before .before .before .lowest in
+    omega (
+      arith,
+      size-without 64 (c .before .before .before .before .before .loop .left) (w .result) (c .rest .result) (w .ensures .below) (w .ensures .member)
+          (c .rest .ensures (w .result) (w .ensures)),
+    )
+
+loop-again : tie.Need-loop-again Inv-loop μ-loop
+loop-again c =
+    let a = c .before .before .before .before .before .before .before .before .before .before .before in
+    let b = c .before .before .before .before .before .loop in
+    let w = c .before .before .before .lowest in
+    looked-again (a .args .rows .now) (a .args .i) 64 (b .all) (b .left) (w .result) (c .before .meet2 .result) (c .rest .result) (b .inv) (w .ensures)
+    (c .before .meet2 .ensures) (c .rest .ensures (w .result) (w .ensures))
 
 has-requires : tie.Need-has-requires Inv-loop μ-loop
 has-requires c κs = omega arith
 
-mul-has : tie.Need-mul-has Inv-loop μ-loop
-mul-has c = search needs
-
-shared-slice-read-has : tie.Need-shared-slice-read-has Inv-loop μ-loop
-shared-slice-read-has c = search needs
-
-has-requires-2 : tie.Need-has-requires-2 Inv-loop μ-loop
-has-requires-2 c κs = omega arith
-
 returns : tie.Need-returns Inv-loop μ-loop
-returns c = (
-  λ e. (
-    c .before .before .before .before .before .before .loop .j,
-    omega arith,
-    subst T (sym (c .before .before .before .if1 .taken) ∙ c .before .before .before .before .has .ensures) tt,
-    λ t. subst T (sym (c .before .has2 .ensures) ∙ not-true _ (c .if2 .taken)) t,
-  ),
-  λ e h. subst T e tt,
-)
-
-add-j : tie.Need-add-j Inv-loop μ-loop
-add-j c = omega arith
-
-loop-less : tie.Need-loop-less Inv-loop μ-loop
-loop-less c = omega arith
-
-loop-again : tie.Need-loop-again Inv-loop μ-loop
-loop-again c =
-    let l = c .before .before .before .loop in
-    (refl, omega arith, below-more _ _ (l .inv .2) (λ t. ⊎-elim (λ w. subst T (sym (not-false _ (w .3 .left)) ∙ w .2 .ensures) tt) (λ w. absurd (subst T (sym (c .before .has .ensures) ∙ w .left) t)) (c .if1 .came)))
-
-returns-2 : tie.Need-returns-2 Inv-loop μ-loop
-returns-2 c = (
-  λ e. absurd (subst T (sym e) tt),
-  λ e h. h .3 (c .before .loop .inv .2 (h .0) (omega (arith, h .1)) (h .2)),
-)
+returns c =
+    let a = c .before .before .before .before .before .before .before .before in
+    let b = c .before .before .loop in (
+      λ e. b .inv .lone (λ t. subst T (sym (c .has .ensures) ∙ not-true _ e) t),
+      λ e.
+          looked-end (a .args .rows .now) (a .args .i) (b .all) (subst (Looked (a .args .rows .now) (a .args .i) (b .all)) (c .before .loop-test .left) (b .inv))
+          (subst T (sym (not-false _ e) ∙ c .has .ensures) tt),
+    )
 
 pub is-one-sided-spec : {M : Type 1} → statement M
 is-one-sided-spec =
     tie.close
-    (tie.spec Inv-loop μ-loop mul-row shared-slice-read-row loop-holds has-requires mul-has shared-slice-read-has has-requires-2 returns add-j loop-less loop-again returns-2)
+    (tie.spec
+    Inv-loop
+    μ-loop
+    below-requires
+    mul-meet
+    shared-slice-read-meet
+    below-requires-2
+    meet-requires
+    loop-holds
+    lowest-requires
+    mul-meet-2
+    shared-slice-read-meet-2
+    meet-requires-2
+    rest-requires
+    loop-less
+    loop-again
+    has-requires
+    returns)
