@@ -94,6 +94,12 @@ struct slotsheet_checking {
     size_t text;      /* the text at fault: an enum slotsheet_text */
 };
 
+struct slotsheet_part {
+    size_t text;      /* the text that it is a part of: an enum slotsheet_text */
+    size_t start;     /* where it starts in that text, in bytes */
+    size_t length;
+};
+
 /* Whether rows are a list: 1 to 4, each over all rows before the next. */
 struct slotsheet_verdict slotsheet_validity(const uint64_t *rows, size_t rows_length);
 
@@ -122,6 +128,11 @@ struct slotsheet_writing slotsheet_write_sheet(const uint8_t *colours, size_t co
    number to the first n colour bytes; those after stay. */
 struct slotsheet_checking slotsheet_check_sheet(const uint8_t *list, size_t list_length, const uint8_t *sheet, size_t sheet_length,
                                                 uint8_t *colours, size_t colours_length);
+
+/* Checks again, for a colour buffer of `room` bytes, and says where the line at fault lies: the line without its line feed. An empty part, at
+   that text's end for a fault at an end, and at its start for 18, or 5, which is the sheet's. SLOTSHEET_NONE where the check accepts. Writes
+   nothing. */
+struct slotsheet_part slotsheet_fault_line(const uint8_t *list, size_t list_length, const uint8_t *sheet, size_t sheet_length, size_t room);
 
 #ifdef __cplusplus
 }

@@ -73,3 +73,9 @@ pub fn check_sheet(list: &[u8], sheet: &[u8], colours: &mut [u8]) -> [usize; 4] 
         unsafe { raw::slotsheet_check_sheet(list.as_ptr(), list.len(), sheet.as_ptr(), sheet.len(), colours.as_mut_ptr(), colours.len()) };
     [said.refusal, said.line, said.groups, said.text]
 }
+
+pub fn fault_line(list: &[u8], sheet: &[u8], room: usize) -> [usize; 3] {
+    // SAFETY: as in `validity`.
+    let said = unsafe { raw::slotsheet_fault_line(list.as_ptr(), list.len(), sheet.as_ptr(), sheet.len(), room) };
+    [said.text, said.start, said.length]
+}

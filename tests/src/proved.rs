@@ -156,7 +156,7 @@ fn damaged_colours() {
     assert!([0, 1, 19, 38].iter().all(|number| met.get(number).is_some_and(|&times| times > 100)), "{met:?}");
 }
 
-/// Reading with 64 rows and with few; and checking: every refusal of both texts is met often.
+/// Reading with 64 rows and with few; and checking, with the place of the line at fault: every refusal of both texts is met often.
 #[test]
 fn damaged_texts_and_sheets() {
     let mut drawn = Numbers(45);
@@ -181,6 +181,8 @@ fn damaged_texts_and_sheets() {
         };
         assert_eq!(said, expected, "{sample:?}");
         assert_eq!(lent, again, "{sample:?}");
+        let part = sheet::preview(&sample.list, &sample.sheet, sample.room);
+        assert_eq!(calls::fault_line(&sample.list, &sample.sheet, sample.room), [said[3], part.offset, part.length], "{sample:?}");
         *met.entry((said[3], said[0])).or_insert(0) += 1;
     }
     let often = |text, refusal| assert!(met.get(&(text, refusal)).is_some_and(|&times| times > 50), "{text} {refusal}: {met:?}");
@@ -228,6 +230,10 @@ fn safe_wrappers() {
             }
         };
         assert_eq!(said, calls::check_sheet(&sample.list, &sample.sheet, &mut again[..sample.room]));
+        let [text, start, length] = calls::fault_line(&sample.list, &sample.sheet, sample.room);
+        let holder = if text == 1 { &sample.list } else { &sample.sheet };
+        let shown = slotsheet::fault_line(&sample.list, &sample.sheet, sample.room);
+        assert_eq!(shown.as_ptr_range(), holder[start..start + length].as_ptr_range());
         let given = colours(&mut drawn);
         assert_eq!(same(slotsheet::write_sheet(&given, &mut out)), calls::write_sheet(&given, &mut again));
         assert_eq!(out, again);

@@ -153,3 +153,18 @@ pub fn check_sheet(list: &[u8], sheet: &[u8], colours: &mut [u8]) -> Result<usiz
     let text = if said.text == 1 { Text::List } else { Text::Sheet };
     answer(said.refusal, said.line as u64, said.groups).map_err(|refused| Fault { text, refused })
 }
+
+/// The line at fault in a check with so many colour bytes, without its line feed, as a part of the text that holds it: empty at that text's end
+/// for a fault at an end, empty at its start for 18; empty at the sheet's start for 5 or where the check accepts.
+///
+/// ```
+/// let list = b"p edge 2 1\ne 1 2\n";
+/// assert_eq!(slotsheet::fault_line(list, b"groups 1\nsize 2\n1\n2\n", 2), b"2");
+/// assert_eq!(slotsheet::fault_line(b"p edge 2 1\ne 1 3\n", b"", 2), b"e 1 3");
+/// ```
+pub fn fault_line<'a>(list: &'a [u8], sheet: &'a [u8], room: usize) -> &'a [u8] {
+    // SAFETY: as in `validity`.
+    let said = unsafe { raw::slotsheet_fault_line(list.as_ptr(), list.len(), sheet.as_ptr(), sheet.len(), room) };
+    let text = if said.text == 1 { list } else { sheet };
+    &text[said.start..said.start + said.length]
+}

@@ -44,6 +44,13 @@ pub struct Checking {
     pub text: usize,
 }
 
+#[repr(C)]
+pub struct Part {
+    pub text: usize,
+    pub start: usize,
+    pub length: usize,
+}
+
 extern "C" {
     pub fn slotsheet_validity(rows: *const u64, rows_length: usize) -> Verdict;
     pub fn slotsheet_clique_bound(rows: *const u64, rows_length: usize) -> Bound;
@@ -61,4 +68,5 @@ extern "C" {
         colours: *mut u8,
         colours_length: usize,
     ) -> Checking;
+    pub fn slotsheet_fault_line(list: *const u8, list_length: usize, sheet: *const u8, sheet_length: usize, room: usize) -> Part;
 }

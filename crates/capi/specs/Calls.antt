@@ -1,6 +1,6 @@
 -- What a call from C promises: the numbers of an answer that meets the face's promise, and the lent memory as that leaves it.
 --
---   ValidityCall, BoundCall, WalkCall, ReadCall, ListCall, SheetCall, CheckCall : one for each kind of call
+--   ValidityCall, BoundCall, WalkCall, ReadCall, ListCall, SheetCall, CheckCall, PartCall : one for each kind of call
 --
 -- Assumes nothing.
 use mathlib.Core.Path.{_≡_}
@@ -21,14 +21,17 @@ use Rattle.lists.specs.declared.Written as list
 use Rattle.sheet_texts.specs.Promise.{WritePromise as SheetPromise}
 use Rattle.sheet_texts.specs.declared.Written as sheet
 use Rattle.sheets.specs.Promise.{CheckPromise}
+use Rattle.sheets.specs.Place.{PlacePromise}
 use Rattle.sheets.specs.declared.Checked.{Checked}
-use Rattle.sittings.specs.Numbers.{verdictNumbers, boundNumbers, walkNumbers, readNumbers, listNumbers, sheetNumbers, checkNumbers}
+use Rattle.sheets.specs.declared.Part.{Part}
+use Rattle.sittings.specs.Numbers.{verdictNumbers, boundNumbers, walkNumbers, readNumbers, listNumbers, sheetNumbers, checkNumbers, partNumbers}
 use Rattle.sittings.specs.declared.numbers.VerdictNumbers.{VerdictNumbers}
 use Rattle.sittings.specs.declared.numbers.BoundNumbers.{BoundNumbers}
 use Rattle.sittings.specs.declared.numbers.WalkNumbers.{WalkNumbers}
 use Rattle.sittings.specs.declared.numbers.ReadNumbers.{ReadNumbers}
 use Rattle.sittings.specs.declared.numbers.WriteNumbers.{WriteNumbers}
 use Rattle.sittings.specs.declared.numbers.CheckNumbers.{CheckNumbers}
+use Rattle.sittings.specs.declared.numbers.PartNumbers.{PartNumbers}
 
 pub record ValidityCall (rows : List ℕ) (r : VerdictNumbers) : Type 0 where
   pub answer : Verdict
@@ -64,3 +67,8 @@ pub record CheckCall (list sheet old : List ℕ) (r : CheckNumbers) (new : List 
   pub answer : Checked
   pub promised : CheckPromise list sheet old answer new
   pub numbers : r ≡ checkNumbers answer
+
+pub record PartCall (list sheet : List ℕ) (room : ℕ) (r : PartNumbers) : Type 0 where
+  pub answer : Part
+  pub promised : PlacePromise list sheet room answer
+  pub numbers : r ≡ partNumbers answer

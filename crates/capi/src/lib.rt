@@ -2,13 +2,14 @@
 // and a length. include/slotsheet.h declares these.
 use sittings::numbers::BoundNumbers;
 use sittings::numbers::CheckNumbers;
+use sittings::numbers::PartNumbers;
 use sittings::numbers::ReadNumbers;
 use sittings::numbers::VerdictNumbers;
 use sittings::numbers::WalkNumbers;
 use sittings::numbers::WriteNumbers;
 ghost use Rattle.bounds.specs.Names.{cliqueBound, mycielskian};
 ghost use Rattle.zykov.specs.Walk.{boundedWalk, plainWalk};
-ghost use Rattle.capi.specs.Calls.{ValidityCall, BoundCall, WalkCall, ReadCall, ListCall, SheetCall, CheckCall};
+ghost use Rattle.capi.specs.Calls.{ValidityCall, BoundCall, WalkCall, ReadCall, ListCall, SheetCall, CheckCall, PartCall};
 
 #[no_mangle]
 pub extern "C" fn slotsheet_validity(rows: &[u64]) -> VerdictNumbers
@@ -84,4 +85,12 @@ pub extern "C" fn slotsheet_check_sheet(
 {
     let a = sittings::check_sheet(list, sheet, colours);
     sittings::numbers::of_check(a)
+}
+
+#[no_mangle]
+pub extern "C" fn slotsheet_fault_line(list: &[u8], sheet: &[u8], room: usize) -> PartNumbers
+    ensures { λ r. ⌜ PartCall (now (list .entry)) (now (sheet .entry)) room r ⌝ }
+{
+    let a = sittings::fault_part(list, sheet, room);
+    sittings::numbers::of_part(a)
 }

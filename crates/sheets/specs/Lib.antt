@@ -1,3 +1,4 @@
 pub mod Check
 pub mod Sound
 pub mod Promise
+pub mod Place

@@ -11,6 +11,7 @@ ghost use Rattle.sheets.specs.Check.{behindOf, groupsOf, sizeOf, placed,
 ghost use Rattle.sheets.specs.Sound.{Sound, Within};
 ghost use Rattle.lists.specs.Promise.{numberOf as listNumberOf};
 ghost use Rattle.sheets.specs.Promise.{numberOf, numbersOf, CheckPromise, ShownOf, PreviewPromise};
+ghost use Rattle.sheets.specs.Place.{partAt, PlacePromise};
 
 // Document 01's refusals of a sheet, 18 and 30 to 37, by their names.
 pub enum SheetFault {
@@ -47,6 +48,13 @@ pub struct Numbers {
     pub line: usize,
     pub groups: usize,
     pub text: usize,
+}
+
+// A part of one of the two texts: which text, by `Numbers`, the place of its first byte, and its length.
+pub struct Part {
+    pub text: usize,
+    pub start: usize,
+    pub length: usize,
 }
 
 // What is known of the counts after some lines (specs/Check.antt).
@@ -439,4 +447,37 @@ pub fn fault_line<'a>(list: &'a [u8], sheet: &'a [u8], room: usize) -> &'a [u8]
         return shown(list, m.line);
     }
     shown(sheet, m.line)
+}
+
+// Where what is shown of a text for this line lies.
+fn part_at(text: usize, s: &[u8], line: usize) -> Part
+    ensures { λ r. ⌜ r ≡ partAt text (now (s .entry)) line ⌝ }
+{
+    if line < 1 {
+        return Part {
+            text,
+            start: 0,
+            length: 0,
+        };
+    }
+    let at = lines::place(s, line - 1);
+    let e = lines::line_end(s, at);
+    Part {
+        text,
+        start: at,
+        length: e - at,
+    }
+}
+
+// The same part as `fault_line`, by its place: for callers that are handed numbers alone.
+pub fn fault_part(list: &[u8], sheet: &[u8], room: usize) -> Part
+    ensures { λ r. ⌜ PlacePromise (now (list .entry)) (now (sheet .entry)) room r ⌝ }
+{
+    let found = check(list, sheet, room);
+    let answer = found.answer;
+    let m = numbers_of(answer);
+    if m.text == 1 {
+        return part_at(m.text, list, m.line);
+    }
+    part_at(m.text, sheet, m.line)
 }

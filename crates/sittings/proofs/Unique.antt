@@ -22,8 +22,11 @@ use Rattle.sheet_texts.specs.Promise.{WritePromise as SheetPromise}
 use Rattle.sheet_texts.specs.declared.Written as sheet
 use Rattle.sheet_texts.proofs.Unique as texts
 use Rattle.sheets.specs.Promise.{CheckPromise, PreviewPromise}
+use Rattle.sheets.specs.Place.{PlacePromise}
 use Rattle.sheets.specs.declared.Checked.{Checked}
+use Rattle.sheets.specs.declared.Part.{Part}
 use Rattle.sheets.proofs.Unique as sheets
+use Rattle.sheets.proofs.Places as places
 
 pub validity-unique : (rows : List ℕ) (a b : Verdict) → Judged rows a → Judged rows b → a ≡ b
 validity-unique = judged-unique
@@ -63,3 +66,15 @@ check-sheet-unique = sheets.check-unique
 pub fault-line-unique : (list sheet : RefT (List ℕ)) (room : ℕ) (r q : RefT (List ℕ)) → PreviewPromise list sheet room r
     → PreviewPromise list sheet room q → (now r ≡ now q) × (r .ptr .0 ≡ q .ptr .0) × (r .ptr .1 ≡ q .ptr .1)
 fault-line-unique = sheets.preview-unique
+
+-- the place in numbers; and what `fault_line` returns is just what lies there
+pub fault-part-unique : (list sheet : List ℕ) (room : ℕ) (p q : Part) → PlacePromise list sheet room p → PlacePromise list sheet room q → p ≡ q
+fault-part-unique = places.place-unique
+
+pub fault-part-shown : (list sheet : RefT (List ℕ)) (room : ℕ) (r : RefT (List ℕ)) (p : Part) → PlacePromise (now list) (now sheet) room p
+    → PreviewPromise list sheet room r → places.At (places.holder list sheet p) p r
+fault-part-shown list sheet room r p = places.place-shown list sheet room r p
+
+pub shown-fault-part : (list sheet : RefT (List ℕ)) (room : ℕ) (r : RefT (List ℕ)) (p : Part) → PlacePromise (now list) (now sheet) room p
+    → places.At (places.holder list sheet p) p r → PreviewPromise list sheet room r
+shown-fault-part list sheet room r p = places.shown-place list sheet room r p

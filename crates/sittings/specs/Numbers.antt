@@ -8,6 +8,7 @@
 --   listNumbers    : of writing a list
 --   sheetNumbers   : of writing a sheet
 --   checkNumbers   : of checking a sheet
+--   partNumbers    : of the place of the line at fault
 --
 -- Assumes nothing.
 use Rattle.clashes.specs.Matrix.{numberOf, rowOf}
@@ -23,12 +24,14 @@ use Rattle.sheet_texts.specs.Promise as texts
 use Rattle.sheet_texts.specs.declared.Written as sheet
 use Rattle.sheets.specs.Promise as sheets
 use Rattle.sheets.specs.declared.Checked.{Checked}
+use Rattle.sheets.specs.declared.Part.{Part}
 use Rattle.sittings.specs.declared.numbers.VerdictNumbers.{VerdictNumbers}
 use Rattle.sittings.specs.declared.numbers.BoundNumbers.{BoundNumbers}
 use Rattle.sittings.specs.declared.numbers.WalkNumbers.{WalkNumbers}
 use Rattle.sittings.specs.declared.numbers.ReadNumbers.{ReadNumbers}
 use Rattle.sittings.specs.declared.numbers.WriteNumbers.{WriteNumbers}
 use Rattle.sittings.specs.declared.numbers.CheckNumbers.{CheckNumbers}
+use Rattle.sittings.specs.declared.numbers.PartNumbers.{PartNumbers}
 
 abbrev pub verdictNumbers : Verdict → VerdictNumbers
 verdictNumbers v = record { refusal = numberOf v; row = rowOf v }
@@ -61,3 +64,6 @@ checkNumbers a = record {
   groups = sheets.numbersOf a .groups;
   text = sheets.numbersOf a .text;
 }
+
+abbrev pub partNumbers : Part → PartNumbers
+partNumbers p = record { text = p .text; start = p .start; length = p .length }

@@ -13,6 +13,7 @@ ghost use Rattle.walk.specs.Promise.{Promised};
 ghost use Rattle.lists.specs.Promise.{ReadPromise, WritePromise};
 ghost use Rattle.sheet_texts.specs.Promise.{WritePromise as SheetPromise};
 ghost use Rattle.sheets.specs.Promise.{CheckPromise, PreviewPromise};
+ghost use Rattle.sheets.specs.Place.{PlacePromise};
 
 pub mod numbers;
 
@@ -84,4 +85,11 @@ pub fn fault_line<'a>(list: &'a [u8], sheet: &'a [u8], room: usize) -> &'a [u8]
     ensures { λ r. ⌜ PreviewPromise (list .entry) (sheet .entry) room r ⌝ }
 {
     sheets::fault_line(list, sheet, room)
+}
+
+// The same part by its place, for callers that cannot be handed a part of what they lend.
+pub fn fault_part(list: &[u8], sheet: &[u8], room: usize) -> sheets::Part
+    ensures { λ r. ⌜ PlacePromise (now (list .entry)) (now (sheet .entry)) room r ⌝ }
+{
+    sheets::fault_part(list, sheet, room)
 }

@@ -7,7 +7,7 @@ use sheets::Checked;
 use walk::Answer;
 ghost use mathlib.Core.Path.{_≡_};
 ghost use Rattle.lists.specs.Promise.{numberOf as faultNumber};
-ghost use Rattle.sittings.specs.Numbers.{verdictNumbers, boundNumbers, walkNumbers, readNumbers, listNumbers, sheetNumbers, checkNumbers};
+ghost use Rattle.sittings.specs.Numbers.{verdictNumbers, boundNumbers, walkNumbers, readNumbers, listNumbers, sheetNumbers, checkNumbers, partNumbers};
 
 #[repr(C)]
 pub struct VerdictNumbers {
@@ -53,6 +53,14 @@ pub struct CheckNumbers {
     pub line: usize,
     pub groups: usize,
     pub text: usize,
+}
+
+// A part of the text that `text` names, as in `CheckNumbers`: the place of its first byte, and its length.
+#[repr(C)]
+pub struct PartNumbers {
+    pub text: usize,
+    pub start: usize,
+    pub length: usize,
 }
 
 pub fn of_verdict(v: Verdict) -> VerdictNumbers
@@ -252,5 +260,15 @@ pub fn of_check(a: Checked) -> CheckNumbers
         line: n.line,
         groups: n.groups,
         text: n.text,
+    }
+}
+
+pub fn of_part(p: sheets::Part) -> PartNumbers
+    ensures { λ r. ⌜ r ≡ partNumbers p ⌝ }
+{
+    PartNumbers {
+        text: p.text,
+        start: p.start,
+        length: p.length,
     }
 }
