@@ -60,11 +60,11 @@ const BUDGET: u64 = 1_000_000;
 
 /// Lists from sparse to dense, 20 to 64 entries.
 #[rustfmt::skip]
-const LISTS: [&str; 31] = [
+const LISTS: [&str; 32] = [
     "1-FullIns_3", "2-Insertions_3", "3-Insertions_3", "myciel4", "myciel5", "queen5_5", "queen6_6", "queen7_7", "queen8_8", "johnson8-2-4",
     "hamming6-4", "random20_10", "random20_50", "random20_90", "random30_10", "random30_30", "random30_50", "random30_70", "random30_90",
     "random40_10", "random40_30", "random40_50", "random40_70", "random40_90", "random50_30", "random50_70", "random64_6", "random64_30",
-    "random64_50", "random64_70", "random64_90",
+    "random64_50", "random64_70", "random64_90", "complete64",
 ];
 
 /// A list of the tests by its name.
