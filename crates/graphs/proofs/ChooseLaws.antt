@@ -1,7 +1,7 @@
 -- Laws of the choice of the pair: what the code holds of each row, and that all rows give the pair of the graph. Assumes nothing.
 use mathlib.Core.Path.{_≡_, refl, sym, ap, ap₂, _∙_, subst, fun-ext}
 use mathlib.Core.Logic.{inl, inr}
-use mathlib.Core.Bool.{Bool, true, false, not, _&&_, cond}
+use mathlib.Core.Bool.{Bool, true, false, not, _&&_}
 use mathlib.Core.List.{List, [], _∷_}
 use mathlib.Core.Option.{Option, none, some}
 use Prim.Native.Nat.{ℕ, zero, suc, _+_, _≤_, _<_}
@@ -10,7 +10,6 @@ use native.Mathlib.Decide.{decLt}
 use native.Mathlib.Omega.{arith}
 use lib.Dec.{T, eqb, ltb, eqb→eq}
 use lib.ListN.{getD}
-use borrow.Author.Tests.{lt-ltb, le-ltb}
 use Rattle.sets.specs.Lists.{In, count, upto, members, select, cross, over}
 use Rattle.sets.specs.Set.{has, size, IsWithout, IsMeet, IsLess, IsLowest}
 use Rattle.sets.proofs.TestLaws.{and-l, and-r, and-t, eqb-of, T→true, T-ext}
@@ -27,7 +26,7 @@ use Rattle.graphs.specs.declared.Lead.{Lead}
 use Rattle.graphs.proofs.GraphLaws.{gap-chosen, of-live}
 use Rattle.graphs.proofs.LoopLaws.{Rest, rest-all, rest-next, rest-after, over-next, over-none, members-narrow, count-narrow}
 use Rattle.graphs.proofs.HeldLaws.{held-beyond, held-members}
-use Rattle.graphs.proofs.LeadLaws.{pairs, after, over-greatest, row-lead, cross-lead, Leads, leads-over, lead-stays, lead-first}
+use Rattle.graphs.proofs.LeadLaws.{pairs, after, over-greatest, row-lead, cross-lead, Leads, leads-over, lead-more, lead-less, lead-stays, lead-first}
 
 -- ---- one pair
 
@@ -40,13 +39,10 @@ module _ (rows : List ℕ) (near u v m c : ℕ) (l : Lead) (h : IsMeet near (get
   plus = add-one c ∙ ap suc (shared-is rows near v m c h e)
 
   pub lead-taken : l .size < c + 1 → record { size = c + 1; u = u; v = v } ≡ lead (shared rows near) u l v
-  lead-taken b =
-      ap (λ (k : ℕ). record { size = k; u = u; v = v }) plus
-      ∙ sym (ap (λ (t : Bool). cond t (record { size = suc (shared rows near v); u = u; v = v }) l) (lt-ltb (l .size) (suc (shared rows near v)) (subst (λ (k : ℕ). l .size < k) plus b)))
+  lead-taken b = ap (λ (k : ℕ). record { size = k; u = u; v = v }) plus ∙ sym (lead-more (shared rows near) u l v (omega (arith, plus)))
 
   pub lead-kept : c + 1 ≤ l .size → l ≡ lead (shared rows near) u l v
-  lead-kept b =
-      sym (ap (λ (t : Bool). cond t (record { size = suc (shared rows near v); u = u; v = v }) l) (le-ltb (l .size) (suc (shared rows near v)) (subst (λ (k : ℕ). k ≤ l .size) plus b)))
+  lead-kept b = sym (lead-less (shared rows near) u l v (omega (arith, plus)))
 
 -- no v leads where near is too small: what u and v share are members of near
 pub lead-none : (rows : List ℕ) (near u : ℕ) (l : Lead) (vs : List ℕ) → size 64 near < l .size → over (lead (shared rows near) u) l vs ≡ l

@@ -134,16 +134,17 @@ leads-over f s u (v ∷ vs) e l o h = leads-over f s u vs (λ w i. e w (inr i)) 
 -- ---- whom the code may pass over, and who leads in the end
 
 module _ (f : ℕ → ℕ) (u : ℕ) where
-  taken : (l : Lead) (v : ℕ) → l .size ≤ f v → lead f u l v ≡ record { size = suc (f v); u = u; v = v }
-  taken l v b = ap (λ (t : Bool). cond t (record { size = suc (f v); u = u; v = v }) l) (lt-ltb (l .size) (suc (f v)) (omega arith))
+  -- v has enough to lead, or too little
+  pub lead-more : (l : Lead) (v : ℕ) → l .size ≤ f v → lead f u l v ≡ record { size = suc (f v); u = u; v = v }
+  lead-more l v b = ap (λ (t : Bool). cond t (record { size = suc (f v); u = u; v = v }) l) (lt-ltb (l .size) (suc (f v)) (omega arith))
 
-  kept : (l : Lead) (v : ℕ) → f v < l .size → lead f u l v ≡ l
-  kept l v b = ap (λ (t : Bool). cond t (record { size = suc (f v); u = u; v = v }) l) (le-ltb (l .size) (suc (f v)) b)
+  pub lead-less : (l : Lead) (v : ℕ) → f v < l .size → lead f u l v ≡ l
+  lead-less l v b = ap (λ (t : Bool). cond t (record { size = suc (f v); u = u; v = v }) l) (le-ltb (l .size) (suc (f v)) b)
 
   -- none of vs has more than what leads already
   pub lead-stays : (vs : List ℕ) (l : Lead) → ((v : ℕ) → In v vs → f v < l .size) → over (lead f u) l vs ≡ l
   lead-stays [] l h = refl
-  lead-stays (v ∷ vs) l h = ap (λ (k : Lead). over (lead f u) k vs) (kept l v (h v (inl refl))) ∙ lead-stays vs l (λ w i. h w (inr i))
+  lead-stays (v ∷ vs) l h = ap (λ (k : Lead). over (lead f u) k vs) (lead-less l v (h v (inl refl))) ∙ lead-stays vs l (λ w i. h w (inr i))
 
   -- where each of vs has less than k, what leads does not pass k
   lead-below : (vs : List ℕ) (l : Lead) (k : ℕ) → ((v : ℕ) → In v vs → f v < k) → l .size ≤ k → over (lead f u) l vs .size ≤ k
@@ -151,8 +152,8 @@ module _ (f : ℕ → ℕ) (u : ℕ) where
   lead-below (v ∷ vs) l k h b = lead-below vs (lead f u l v) k (λ w i. h w (inr i)) (at (decLt (f v) (l .size)))
     where
       at : Dec (f v < l .size) → lead f u l v .size ≤ k
-      at (yes c) = rw (kept l v c) b
-      at (no c) = rw (taken l v (omega arith)) (h v (inl refl))
+      at (yes c) = rw (lead-less l v c) b
+      at (no c) = rw (lead-more l v (omega arith)) (h v (inl refl))
 
   -- the first who has most leads, where it has not less than what leads before
   pub lead-first : (p : ℕ → Bool) (w : ℕ) → T (p w) → ((j : ℕ) → j < w → T (p j) → f j < f w) → ((j : ℕ) → T (p j) → f j ≤ f w)
@@ -162,12 +163,12 @@ module _ (f : ℕ → ℕ) (u : ℕ) where
       over-append (lead f u) l (members p n) (keep (p n) n) ∙ go (ℕ-discrete w n) (λ c. lead-first p w t less most n c l b)
     where
       none : (b : Bool) → (T b → f n ≤ f w) → over (lead f u) (record { size = suc (f w); u = u; v = w }) (keep b n) ≡ record { size = suc (f w); u = u; v = w }
-      none true c = kept (record { size = suc (f w); u = u; v = w }) n (omega (arith, c tt))
+      none true c = lead-less (record { size = suc (f w); u = u; v = w }) n (omega (arith, c tt))
       none false c = refl
 
       one : (b : Bool) → T b → over (lead f u) (over (lead f u) l (members p w)) (keep b w) ≡ record { size = suc (f w); u = u; v = w }
       one true c =
-          taken (over (lead f u) l (members p w)) w (lead-below (members p w) l (f w) (λ j i. let q = In-members p w j i in less j (q .0) (q .1)) b)
+          lead-more (over (lead f u) l (members p w)) w (lead-below (members p w) l (f w) (λ j i. let q = In-members p w j i in less j (q .0) (q .1)) b)
       one false c = absurd c
 
       go : Dec (w ≡ n) → (w < n → over (lead f u) l (members p n) ≡ record { size = suc (f w); u = u; v = w })
