@@ -5,6 +5,10 @@
 //! TESTS is the folder with `graphs` and `walks`. All walks are run in turns, for processor time, with slotsheet's budget; their answers are
 //! compared, and a difference ends the run. A word after TESTS, as in `bench TESTS queen`, leaves only the lists whose names have it.
 //! With the feature `proved` the proved library stands beside the hand-written walks, called through its C interface.
+//!
+//!     bench TESTS once LIST WALK BUDGET
+//!
+//! walks one list once and prints the nodes entered, for a program that counts instructions.
 
 mod clock;
 #[cfg(feature = "proved")]
@@ -237,13 +241,33 @@ fn texts(tests: &Path) -> bool {
     true
 }
 
+/// One walk of one list: its nodes, or nothing where there is no such walk.
+fn once(tests: &Path, name: &str, walk: &str, budget: &str) -> ExitCode {
+    let rows = named(tests, name);
+    let (Some((_, walk)), Ok(budget)) = (WALKS.iter().find(|(known, _)| *known == walk), budget.parse()) else {
+        eprintln!("no walk '{walk}', or no budget '{budget}'");
+        return ExitCode::FAILURE;
+    };
+    let mut colours = vec![0; rows.len()];
+    match walk(&rows, &mut colours, budget) {
+        Ok(walked) => println!("{}", walked.nodes),
+        Err(refused) => println!("{}", refused.place),
+    }
+    ExitCode::SUCCESS
+}
+
 fn main() -> ExitCode {
     let words: Vec<String> = std::env::args().skip(1).collect();
+    if let [tests, word, name, walk, budget] = &words[..] {
+        if word == "once" {
+            return once(Path::new(tests), name, walk, budget);
+        }
+    }
     let (tests, word) = match &words[..] {
         [tests] => (PathBuf::from(tests), ""),
         [tests, word] => (PathBuf::from(tests), word.as_str()),
         _ => {
-            eprintln!("usage: bench TESTS [WORD]");
+            eprintln!("usage: bench TESTS [WORD], or bench TESTS once LIST WALK BUDGET");
             return ExitCode::FAILURE;
         }
     };
