@@ -8,6 +8,7 @@ pub mod Marks
 pub mod EdgeMembers
 pub mod ReadBack
 pub mod ReadSound
+pub mod Lines
 pub mod Calls
 mod Examples
 pub mod Unique
