@@ -1,0 +1,2 @@
+-- Each call from C leaves one answer.
+pub mod Unique

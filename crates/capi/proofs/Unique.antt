@@ -1,0 +1,72 @@
+-- Every call from C leaves one answer in numbers and one state of the lent memory, for every input, refused ones too: the face's promise leaves one
+-- answer (`crates/sittings/proofs/Unique.antt`), and an answer has one set of numbers. Assumes nothing.
+use mathlib.Core.Path.{_≡_, sym, ap, _∙_}
+use mathlib.Core.List.{List}
+use Prim.Native.Nat.{ℕ}
+use Rattle.bounds.specs.Names.{cliqueBound, mycielskian}
+use Rattle.zykov.specs.Walk.{boundedWalk, plainWalk}
+use Rattle.sittings.specs.Numbers.{verdictNumbers, boundNumbers, walkNumbers, readNumbers, listNumbers, sheetNumbers, checkNumbers, partNumbers}
+use Rattle.sittings.specs.declared.numbers.VerdictNumbers.{VerdictNumbers}
+use Rattle.sittings.specs.declared.numbers.BoundNumbers.{BoundNumbers}
+use Rattle.sittings.specs.declared.numbers.WalkNumbers.{WalkNumbers}
+use Rattle.sittings.specs.declared.numbers.ReadNumbers.{ReadNumbers}
+use Rattle.sittings.specs.declared.numbers.WriteNumbers.{WriteNumbers}
+use Rattle.sittings.specs.declared.numbers.CheckNumbers.{CheckNumbers}
+use Rattle.sittings.specs.declared.numbers.PartNumbers.{PartNumbers}
+use Rattle.sittings.proofs.Unique as face
+use Rattle.capi.specs.Calls.{ValidityCall, BoundCall, WalkCall, ReadCall, ListCall, SheetCall, CheckCall, PartCall}
+
+-- the two laws, over any numbers f of answers: one answer has one set of numbers, and the lent memory is as the answer leaves it
+numbers-unique : {A R : Type 0} (f : A → R) {a b : A} {r q : R} → r ≡ f a → q ≡ f b → a ≡ b → r ≡ q
+numbers-unique f x y e = x ∙ ap f e ∙ sym y
+
+call-unique : {A R : Type 0} (f : A → R) {a b : A} {r q : R} {new other : List ℕ} → r ≡ f a → q ≡ f b → (a ≡ b) × (new ≡ other) → (r ≡ q) × (new ≡ other)
+call-unique f x y u = (numbers-unique f x y (u .0), u .1)
+
+-- ---- calls that write nothing
+
+pub validity-unique : (rows : List ℕ) (r q : VerdictNumbers) → ValidityCall rows r → ValidityCall rows q → r ≡ q
+validity-unique rows r q x y = numbers-unique verdictNumbers (x .numbers) (y .numbers) (face.validity-unique rows (x .answer) (y .answer) (x .promised) (y .promised))
+
+pub clique-unique : (rows : List ℕ) (r q : BoundNumbers) → BoundCall cliqueBound rows r → BoundCall cliqueBound rows q → r ≡ q
+clique-unique rows r q x y = numbers-unique boundNumbers (x .numbers) (y .numbers) (face.clique-unique rows (x .answer) (y .answer) (x .promised) (y .promised))
+
+pub mycielskian-unique : (rows : List ℕ) (r q : BoundNumbers) → BoundCall mycielskian rows r → BoundCall mycielskian rows q → r ≡ q
+mycielskian-unique rows r q x y = numbers-unique boundNumbers (x .numbers) (y .numbers) (face.mycielskian-unique rows (x .answer) (y .answer) (x .promised) (y .promised))
+
+pub fault-line-unique : (list sheet : List ℕ) (room : ℕ) (r q : PartNumbers) → PartCall list sheet room r → PartCall list sheet room q → r ≡ q
+fault-line-unique list sheet room r q x y =
+    numbers-unique partNumbers (x .numbers) (y .numbers) (face.fault-part-unique list sheet room (x .answer) (y .answer) (x .promised) (y .promised))
+
+-- ---- calls that are lent memory to write
+
+pub fewest-unique : (rows before : List ℕ) (budget : ℕ) (r q : WalkNumbers) (after other : List ℕ)
+    → WalkCall (boundedWalk mycielskian) rows before budget r after → WalkCall (boundedWalk mycielskian) rows before budget q other
+    → (r ≡ q) × (after ≡ other)
+fewest-unique rows before budget r q after other x y =
+    call-unique walkNumbers (x .numbers) (y .numbers) (face.fewest-unique rows before budget (x .answer) (y .answer) after other (x .promised) (y .promised))
+
+pub plain-unique : (rows before : List ℕ) (budget : ℕ) (r q : WalkNumbers) (after other : List ℕ) → WalkCall plainWalk rows before budget r after
+    → WalkCall plainWalk rows before budget q other → (r ≡ q) × (after ≡ other)
+plain-unique rows before budget r q after other x y =
+    call-unique walkNumbers (x .numbers) (y .numbers) (face.plain-unique rows before budget (x .answer) (y .answer) after other (x .promised) (y .promised))
+
+pub read-list-unique : (text old : List ℕ) (r q : ReadNumbers) (new other : List ℕ) → ReadCall text old r new → ReadCall text old q other
+    → (r ≡ q) × (new ≡ other)
+read-list-unique text old r q new other x y =
+    call-unique readNumbers (x .numbers) (y .numbers) (face.read-list-unique text old (x .answer) (y .answer) new other (x .promised) (y .promised))
+
+pub write-list-unique : (rows old : List ℕ) (r q : WriteNumbers) (new other : List ℕ) → ListCall rows old r new → ListCall rows old q other
+    → (r ≡ q) × (new ≡ other)
+write-list-unique rows old r q new other x y =
+    call-unique listNumbers (x .numbers) (y .numbers) (face.write-list-unique rows old (x .answer) (y .answer) new other (x .promised) (y .promised))
+
+pub write-sheet-unique : (colours old : List ℕ) (r q : WriteNumbers) (new other : List ℕ) → SheetCall colours old r new → SheetCall colours old q other
+    → (r ≡ q) × (new ≡ other)
+write-sheet-unique colours old r q new other x y =
+    call-unique sheetNumbers (x .numbers) (y .numbers) (face.write-sheet-unique colours old (x .answer) (y .answer) new other (x .promised) (y .promised))
+
+pub check-sheet-unique : (list sheet old : List ℕ) (r q : CheckNumbers) (new other : List ℕ) → CheckCall list sheet old r new → CheckCall list sheet old q other
+    → (r ≡ q) × (new ≡ other)
+check-sheet-unique list sheet old r q new other x y =
+    call-unique checkNumbers (x .numbers) (y .numbers) (face.check-sheet-unique list sheet old (x .answer) (y .answer) new other (x .promised) (y .promised))
