@@ -14,7 +14,7 @@ use Rattle.sets.specs.Lists.{In, count, upto, members, select, cross, over}
 use Rattle.sets.specs.Set.{has, size, IsWithout, IsMeet, IsLess, IsLowest}
 use Rattle.sets.proofs.TestLaws.{and-l, and-r, and-t, eqb-of, T→true, T-ext}
 use Rattle.sets.proofs.ListLaws.{count-le}
-use Rattle.sets.proofs.MemberLaws.{count-few, count-agree, members-agree, members-none, In-members}
+use Rattle.sets.proofs.MemberLaws.{count-few, count-agree, count-narrow, members-agree, members-none, members-narrow, In-members}
 use Rattle.counts.specs.Counts.{held, value, Counted, IsMost}
 use Rattle.counts.specs.declared.Counts.{Counts}
 use Rattle.counts.specs.declared.Most.{Most}
@@ -24,7 +24,7 @@ use Rattle.graphs.specs.Acts.{lead, shared, Mutual}
 use Rattle.graphs.specs.declared.Node.{Node}
 use Rattle.graphs.specs.declared.Lead.{Lead}
 use Rattle.graphs.proofs.GraphLaws.{gap-chosen, of-live}
-use Rattle.graphs.proofs.LoopLaws.{Rest, rest-all, rest-next, rest-after, over-next, over-none, members-narrow, count-narrow}
+use Rattle.graphs.proofs.LoopLaws.{Rest, rest-all, rest-next, rest-after, over-next, over-none}
 use Rattle.graphs.proofs.HeldLaws.{held-beyond, held-members}
 use Rattle.graphs.proofs.LeadLaws.{pairs, after, over-greatest, row-lead, cross-lead, Leads, leads-over, lead-more, lead-less, lead-stays, lead-first}
 

@@ -10,6 +10,7 @@ use lib.ListN.{length, List·getD-append}
 use lib.Seq.{getD-at}
 use Rattle.sets.specs.Lists.{In, table}
 use Rattle.sets.proofs.ListLaws.{table-In, In-table, table-suc, noDup-le}
+use Rattle.sets.proofs.MemberLaws.{members-noDup}
 use Rattle.clashes.specs.Labels.{add, place, distinct, number}
 use Rattle.clashes.specs.Divisions.{at, groups, division, Division, SameGroups}
 use Rattle.clashes.proofs.NumberLaws.{place-new, distinct-new, distinct-cases, distinct-noDup}
@@ -17,7 +18,6 @@ use Rattle.clashes.proofs.DivisionLaws.{division-canon, division-length, divisi
 use Rattle.clashes.proofs.ColouringLaws.{canon-below}
 use Rattle.graphs.specs.Graph.{Graph, live, vertices, grouping}
 use Rattle.graphs.specs.Good.{Good}
-use Rattle.graphs.proofs.PairLaws.{members-noDup}
 use Rattle.graphs.proofs.GraphLaws.{vertices-live, live-vertices}
 
 -- ---- one entry more

@@ -14,7 +14,7 @@ use borrow.Author.Tests.{eq-eqb, ne-eqb, lt-ltb}
 use Rattle.sets.specs.Lists.{count, upto, members}
 use Rattle.sets.specs.Set.{has, size, IsWith, IsWithout, IsJoin, IsMeet, IsLess, IsBelow}
 use Rattle.sets.proofs.TestLaws.{and-r, and-t, T→true, T→false, T-ext, eqb-same, and-true}
-use Rattle.sets.proofs.MemberLaws.{count-agree, members-count, members-agree}
+use Rattle.sets.proofs.MemberLaws.{count-agree, count-narrow, members-count, members-agree, members-narrow}
 use Rattle.clashes.specs.Divisions.{groups}
 use Rattle.clashes.specs.Matrix.{matrix, Sound}
 use Rattle.clashes.proofs.MatrixLaws.{sound-valid}
@@ -29,7 +29,6 @@ use Rattle.graphs.proofs.GraphLaws.{graph-ext, live-of, of-live, to-oth
 use Rattle.graphs.proofs.SplitLaws.{merge-is, separate-is, good-merged, good-parted, good-graph, merged-live, live-merged, graph-live, chosen-differ}
 use Rattle.graphs.proofs.MeasureLaws.{merged-count, merged-fewer, parted-count, parted-fewer}
 use Rattle.graphs.proofs.GroupingLaws.{grouping-groups}
-use Rattle.graphs.proofs.LoopLaws.{members-narrow, count-narrow}
 
 eqb-turn : (m k : ℕ) → eqb m k ≡ eqb k m
 eqb-turn m k = go (ℕ-discrete m k)

@@ -2,7 +2,7 @@
 use mathlib.Core.Path.{_≡_, refl, sym, ap, _∙_, subst}
 use mathlib.Core.Logic.{_≢_}
 use mathlib.Core.Bool.{Bool, true, false, not, _&&_, _||_, cond}
-use mathlib.Core.List.{List, [], _++_, append-nil}
+use mathlib.Core.List.{List}
 use Prim.Native.Nat.{ℕ, zero, suc, _+_, _≤_, _<_}
 use native.Mathlib.Decide.{ℕ-discrete, decLt}
 use native.Mathlib.Omega.{arith}
@@ -10,12 +10,13 @@ use lib.Dec.{T, T-not, not-T, eqb, leb, ltb, ltb→lt, lt→ltb}
 use lib.ListN.{length, getD, set, replicate, length-replicate, getD-replicate, List·getD-eq-default}
 use lib.Seq.{getD-set-same, getD-set-other}
 use borrow.Author.Tests.{ne-eqb, lt-ltb, le-ltb, le-leb, lt-leb}
-use Rattle.sets.specs.Lists.{bit, count, upto, keep, members, over}
+use Rattle.sets.specs.Lists.{bit, count, upto, members, over}
 use Rattle.sets.specs.Set.{has, size, IsWithout, IsLowest}
 use Rattle.sets.proofs.TestLaws.{and-l, and-r, and-t, and-true, T-ext}
-use Rattle.sets.proofs.MemberLaws.{count-few, count-agree, count-out, members-count, members-none}
+use Rattle.sets.proofs.MemberLaws.{count-few, count-agree, count-out, members-none}
 use Rattle.sets.proofs.SetLaws.{has-none, size-without, members-cons}
 use Rattle.graphs.proofs.PairLaws.{of-ne, ne-of}
+pub use Rattle.sets.proofs.MemberLaws.{members-narrow, count-narrow}
 
 -- ---- one member fewer
 
@@ -73,25 +74,6 @@ rest-after whole left w next r l h y =
         go : Dec (y < w) → w < y
         go (yes b) = absurd (l .least y b t)
         go (no b) = omega arith
-
--- ---- a test with no member from n on
-
-pub members-narrow : (p : ℕ → Bool) (n k : ℕ) → n ≤ k → ((j : ℕ) → n ≤ j → ¬ T (p j)) → members p k ≡ members p n
-members-narrow p n zero b f = let e : zero ≡ n = omega arith in ap (members p) e
-members-narrow p n (suc k) b f = go (ℕ-discrete n (suc k)) (λ c. members-narrow p n k c f)
-  where
-    kept : (b : Bool) → ¬ T b → keep b k ≡ []
-    kept true q = absurd (q tt)
-    kept false q = refl
-
-    go : Dec (n ≡ suc k) → (n ≤ k → members p k ≡ members p n) → members p k ++ keep (p k) k ≡ members p n
-    go (yes e) r = ap (members p) (sym e)
-    go (no q) r =
-        let c : n ≤ k = omega arith in
-        ap (λ (l : List ℕ). members p k ++ l) (kept (p k) (f k c)) ∙ append-nil (members p k) ∙ r c
-
-pub count-narrow : (p : ℕ → Bool) (n k : ℕ) → n ≤ k → ((j : ℕ) → n ≤ j → ¬ T (p j)) → count p (upto k) ≡ count p (upto n)
-count-narrow p n k b f = sym (members-count p k) ∙ ap length (members-narrow p n k b f) ∙ members-count p n
 
 -- ---- places of an array
 

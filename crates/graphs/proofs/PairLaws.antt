@@ -1,7 +1,7 @@
--- Laws of the pairs below two numbers, of members, and the rules by which `search` takes a test apart (`out`) and puts one together (`in-to`).
+-- Laws of the pairs below two numbers, and the rules by which `search` takes a test apart (`out`) and puts one together (`in-to`).
 -- Assumes nothing.
-use mathlib.Core.Path.{_≡_, refl}
-use mathlib.Core.Logic.{inl, inr, _≢_}
+use mathlib.Core.Path.{_≡_}
+use mathlib.Core.Logic.{_≢_}
 use mathlib.Core.Bool.{Bool, true, false, not, _&&_}
 use mathlib.Core.List.{List, [], _∷_, _++_}
 use Prim.Native.Nat.{ℕ, zero, suc, _*_, _≤_, _<_, zero-le}
@@ -10,10 +10,10 @@ use native.Mathlib.Decide.{ℕ-discrete}
 use native.Mathlib.Omega.{arith}
 use lib.Dec.{T, eqb, eqb→eq, ltb→lt, lt→ltb, T-not, not-T}
 use lib.ListN.{length, length-append}
-use Rattle.sets.specs.Lists.{bit, In, NoDup, count, table, keep, members, cross}
+use Rattle.sets.specs.Lists.{bit, In, count, table, cross}
 use Rattle.sets.proofs.TestLaws.{and-l, and-r, and-t, or-l, or-r, eqb-of}
-use Rattle.sets.proofs.ListLaws.{In-table, length-table, In-append, In-append-l, In-append-r}
-use Rattle.sets.proofs.MemberLaws.{In-members}
+use Rattle.sets.proofs.ListLaws.{In-table, length-table, In-append-l, In-append-r}
+pub use Rattle.sets.proofs.MemberLaws.{members-noDup}
 
 -- ---- tests
 
@@ -56,22 +56,3 @@ count-length p (x ∷ l) = omega (arith, one (p x), count-length p l)
     one : (b : Bool) → bit b ≤ 1
     one true = omega arith
     one false = omega arith
-
--- ---- members
-
-pub members-noDup : (p : ℕ → Bool) (n : ℕ) → NoDup (members p n)
-members-noDup p zero = tt
-members-noDup p (suc n) = behind (members p n) (p n) (members-noDup p n) (λ x i. In-members p n x i .0)
-  where
-    behind : (l : List ℕ) (b : Bool) → NoDup l → ((x : ℕ) → In x l → x < n) → NoDup (l ++ keep b n)
-    behind [] true d f = (λ i. i, tt)
-    behind [] false d f = tt
-    behind (x ∷ l) b d f = (λ i. out b i, behind l b (d .1) (λ y j. f y (inr j)))
-      where
-        kept : (b : Bool) → In x (keep b n) → x ≡ n
-        kept true (inl e) = e
-        kept true (inr j) = absurd j
-        kept false j = absurd j
-
-        out : (b : Bool) → In x (l ++ keep b n) → ⊥
-        out b i = elim (In-append x l (keep b n) i) [ inl j ↦ d .0 j | inr j ↦ (let e = kept b j in let q = f x (inl refl) in let z : ⊥ = omega arith in z) ]

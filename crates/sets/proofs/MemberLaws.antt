@@ -2,7 +2,7 @@
 use mathlib.Core.Path.{_≡_, refl, sym, ap, ap₂, _∙_, subst}
 use mathlib.Core.Logic.{_⊎_, inl, inr, _≢_}
 use mathlib.Core.Bool.{Bool, true, false, not, _&&_}
-use mathlib.Core.List.{List, [], _∷_, _++_}
+use mathlib.Core.List.{List, [], _∷_, _++_, append-nil}
 use mathlib.Core.Option.{Option, none, some}
 use Prim.Native.Nat.{ℕ, zero, suc, _+_, _≤_, _<_}
 use native.Mathlib.Nat.{not-suc-le-zero}
@@ -11,9 +11,9 @@ use native.Mathlib.Omega.{arith}
 use lib.Dec.{T, eqb}
 use lib.ListN.{length, length-append}
 use borrow.Author.Tests.{ne-eqb}
-use Rattle.sets.specs.Lists.{bit, In, count, table, upto, keep, members, first, lowest}
+use Rattle.sets.specs.Lists.{bit, In, NoDup, count, table, upto, keep, members, first, lowest}
 use Rattle.sets.proofs.TestLaws.{bit-few, bit-one, bit-zero, T?, and-r, and-true, eqb-same}
-use Rattle.sets.proofs.ListLaws.{count-append, table-suc, In-append, In-append-l, In-append-r}
+use Rattle.sets.proofs.ListLaws.{count-append, table-suc, In-append, In-append-l, In-append-r, noDup-append}
 
 pub count-upto : (p : ℕ → Bool) (n : ℕ) → count p (upto (suc n)) ≡ count p (upto n) + bit (p n)
 unfolding upto
@@ -63,13 +63,27 @@ members-agree zero p q h = refl
 members-agree (suc n) p q h =
     ap₂ (λ (l : List ℕ) (b : Bool). l ++ keep b n) (members-agree n p q (λ j l. h j (omega arith))) (h n (omega arith))
 
+keep-none : (b : Bool) (n : ℕ) → ¬ T b → keep b n ≡ []
+keep-none true n q = absurd (q tt)
+keep-none false n q = refl
+
 pub members-none : (p : ℕ → Bool) (n : ℕ) → ((j : ℕ) → j < n → ¬ T (p j)) → members p n ≡ []
 members-none p zero f = refl
-members-none p (suc n) f = ap (λ (l : List ℕ). l ++ keep (p n) n) (members-none p n (λ j b. f j (omega arith))) ∙ kept (p n) (f n (omega arith))
+members-none p (suc n) f = ap (λ (l : List ℕ). l ++ keep (p n) n) (members-none p n (λ j b. f j (omega arith))) ∙ keep-none (p n) n (f n (omega arith))
+
+-- a test that passes nowhere from n on
+pub members-narrow : (p : ℕ → Bool) (n k : ℕ) → n ≤ k → ((j : ℕ) → n ≤ j → ¬ T (p j)) → members p k ≡ members p n
+members-narrow p n zero b f = let e : zero ≡ n = omega arith in ap (members p) e
+members-narrow p n (suc k) b f = go (ℕ-discrete n (suc k)) (λ c. members-narrow p n k c f)
   where
-    kept : (b : Bool) → ¬ T b → keep b n ≡ []
-    kept true q = absurd (q tt)
-    kept false q = refl
+    go : Dec (n ≡ suc k) → (n ≤ k → members p k ≡ members p n) → members p k ++ keep (p k) k ≡ members p n
+    go (yes e) r = ap (members p) (sym e)
+    go (no q) r =
+        let c : n ≤ k = omega arith in
+        ap (λ (l : List ℕ). members p k ++ l) (keep-none (p k) k (f k c)) ∙ append-nil (members p k) ∙ r c
+
+pub count-narrow : (p : ℕ → Bool) (n k : ℕ) → n ≤ k → ((j : ℕ) → n ≤ j → ¬ T (p j)) → count p (upto k) ≡ count p (upto n)
+count-narrow p n k b f = sym (members-count p k) ∙ ap length (members-narrow p n k b f) ∙ members-count p n
 
 -- the lowest member and the others
 pub members-lowest : (n : ℕ) (p q : ℕ → Bool) (w : ℕ) → w < n → T (p w) → ((j : ℕ) → j < w → ¬ T (p j)) → ¬ T (q w)
@@ -165,3 +179,16 @@ members-In p (suc n) x b t = go (ℕ-discrete x n) (members-In p n x)
     go : Dec (x ≡ n) → (x < n → T (p x) → In x (members p n)) → In x (members p n ++ keep (p n) n)
     go (yes e) r = In-append-r x (members p n) (keep (p n) n) (subst (λ z. In z (keep (p n) n)) (sym e) (kept (p n) (rw e at t)))
     go (no a) r = In-append-l x (members p n) (keep (p n) n) (r (omega arith) t)
+
+pub members-noDup : (p : ℕ → Bool) (n : ℕ) → NoDup (members p n)
+members-noDup p zero = tt
+members-noDup p (suc n) = noDup-append (members p n) (keep (p n) n) (members-noDup p n) (alone (p n)) (λ x i j. above x (p n) (In-members p n x i .0) j)
+  where
+    alone : (b : Bool) → NoDup (keep b n)
+    alone true = (λ i. i, tt)
+    alone false = tt
+
+    above : (x : ℕ) (b : Bool) → x < n → In x (keep b n) → ⊥
+    above x true h (inl e) = omega arith
+    above x true h (inr j) = j
+    above x false h j = j
