@@ -5,6 +5,7 @@ use sets::join;
 use sets::less;
 use sets::lowest;
 use sets::meet;
+use sets::rest;
 use sets::size;
 use sets::with;
 use sets::without;
@@ -41,7 +42,7 @@ pub fn whole(c: u64) -> Sub
     while left != 0 {
         let v = lowest(left);
         near[v] = without(c, v);
-        left = without(left, v);
+        left = rest(left);
     }
     Sub { set: c, near: near }
 }
@@ -56,7 +57,7 @@ pub fn serving(live: u64, rows: &[u64; 64], near: u64) -> u64
     while left != 0 {
         let y = lowest(left);
         s = meet(s, rows[y]);
-        left = without(left, y);
+        left = rest(left);
     }
     s
 }
@@ -70,7 +71,7 @@ pub fn reached(rows: &[u64; 64], s: u64) -> u64
     while left != 0 {
         let x = lowest(left);
         r = join(r, rows[x]);
-        left = without(left, x);
+        left = rest(left);
     }
     r
 }
@@ -88,7 +89,7 @@ pub fn tie(near: &mut [u64; 64], u: usize, ys: u64)
         let y = lowest(left);
         let row = with(near[y], u);
         near[y] = row;
-        left = without(left, y);
+        left = rest(left);
     }
 }
 
@@ -104,7 +105,7 @@ pub fn lacking(live: u64, rows: &[u64; 64], c: u64) -> Lack
         let away = less(live, rows[v]);
         twice = join(twice, meet(once, away));
         once = join(once, away);
-        left = without(left, v);
+        left = rest(left);
     }
     Lack {
         once: once,
@@ -138,7 +139,7 @@ pub fn first_witnesses(live: u64, rows: &[u64; 64], c: u64) -> u64
         if ws == 0 {
             return 0;
         }
-        left = without(left, v);
+        left = rest(left);
     }
     ws
 }
@@ -157,7 +158,7 @@ pub fn witnesses(live: u64, rows: &[u64; 64], set: u64, near: &[u64; 64]) -> u64
         if ws == 0 {
             return 0;
         }
-        left = without(left, v);
+        left = rest(left);
     }
     ws
 }
@@ -183,7 +184,7 @@ pub fn extended(live: u64, rows: &[u64; 64], p: Sub, w: usize) -> Sub
         set = with(set, u);
         let ys = with(old[v], w);
         tie(&mut near, u, ys);
-        left = without(left, v);
+        left = rest(left);
     }
     Sub {
         set: set,

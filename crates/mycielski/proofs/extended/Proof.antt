@@ -79,11 +79,11 @@ with-requires-3 c κs = search needs
 tie-requires : tie.Need-tie-requires Inv-loop μ-loop
 tie-requires c κs = (c .before .before .before .before .before .before .before .before .loop .inv .1, c .before .before .before .lowest2 .ensures .below)
 
-without-requires : tie.Need-without-requires Inv-loop μ-loop
-without-requires c κs = search needs
+rest-requires : tie.Need-rest-requires Inv-loop μ-loop
+rest-requires c κs = search needs
 
 loop-less : tie.Need-loop-less Inv-loop μ-loop
-loop-less c = left-falls (c .before .before .before .before .before .before .before .before .before .before .loop .left) (c .before .before .before .before .before .before .before .before .lowest .result) (c .without .result) (c .before .before .before .before .before .before .before .before .lowest .ensures) (c .without .ensures)
+loop-less c = left-falls (c .before .before .before .before .before .before .before .before .before .before .loop .left) (c .before .before .before .before .before .before .before .before .lowest .result) (c .rest .result) (c .before .before .before .before .before .before .before .before .lowest .ensures) (c .rest .ensures (c .before .before .before .before .before .before .before .before .lowest .result) (c .before .before .before .before .before .before .before .before .lowest .ensures))
 
 loop-again : tie.Need-loop-again Inv-loop μ-loop
 loop-again c =
@@ -91,12 +91,12 @@ loop-again c =
     let b = c .before .before .before .before .before .before .before .before .before .before .loop in
     let v = c .before .before .before .before .before .before .before .before .lowest in
     let s = c .before .before .before .before .before .before .before .serving in (
-      within-again (a .args .p .set) (b .left) (v .result) (c .without .result) (b .inv .0) (v .ensures) (c .without .ensures),
+      within-again (a .args .p .set) (b .left) (v .result) (c .rest .result) (b .inv .0) (v .ensures) (c .rest .ensures (v .result) (v .ensures)),
       c .before .tie .ensures .long ∙ b .inv .1,
       λ m k i t.
           extending-again (holding (a .args .live) (a .args .rows .now) m) k (a .args .p) i (a .args .w) t (record { set = b .set; near = b .near }) (b .left) (v .result)
-          (s .result) (c .before .before .before .before .before .before .meet .result) (c .before .before .before .before .before .lowest2 .result) (c .before .before .before .with3 .result) (c .before .before .before .before .with2 .result) _ (c .without .result)
-          (b .inv .2 m k i t) (v .ensures) (s .ensures m k) (c .before .before .before .before .before .before .meet .ensures) (c .before .before .before .before .before .lowest2 .ensures) (c .before .before .before .with3 .ensures) (c .before .before .before .before .with2 .ensures) (c .before .tie .ensures) (c .without .ensures),
+          (s .result) (c .before .before .before .before .before .before .meet .result) (c .before .before .before .before .before .lowest2 .result) (c .before .before .before .with3 .result) (c .before .before .before .before .with2 .result) _ (c .rest .result)
+          (b .inv .2 m k i t) (v .ensures) (s .ensures m k) (c .before .before .before .before .before .before .meet .ensures) (c .before .before .before .before .before .lowest2 .ensures) (c .before .before .before .with3 .ensures) (c .before .before .before .before .with2 .ensures) (c .before .tie .ensures) (c .rest .ensures (v .result) (v .ensures)),
     )
 
 returns : tie.Need-returns Inv-loop μ-loop
@@ -130,7 +130,7 @@ extended-spec =
     array-read-with
     with-requires-3
     tie-requires
-    without-requires
+    rest-requires
     loop-less
     loop-again
     returns)

@@ -82,11 +82,11 @@ returns c =
     (c .before .before .reached .ensures (a .args .live) (serving-live h k (a .args .c) e (a .pre) (v .result) (c .before .before .before .less2 .result) s) m k)
     (c .before .meet2 .ensures) (without-is (b .left) (v .result))))
 
-without-requires : tie.Need-without-requires Inv-loop μ-loop
-without-requires c κs = search needs
+rest-requires : tie.Need-rest-requires Inv-loop μ-loop
+rest-requires c κs = search needs
 
 loop-less : tie.Need-loop-less Inv-loop μ-loop
-loop-less c = left-falls (c .before .before .before .before .before .before .before .before .before .loop .left) (c .before .before .before .before .before .before .before .lowest .result) (c .without .result) (c .before .before .before .before .before .before .before .lowest .ensures) (c .without .ensures)
+loop-less c = left-falls (c .before .before .before .before .before .before .before .before .before .loop .left) (c .before .before .before .before .before .before .before .lowest .result) (c .rest .result) (c .before .before .before .before .before .before .before .lowest .ensures) (c .rest .ensures (c .before .before .before .before .before .before .before .lowest .result) (c .before .before .before .before .before .before .before .lowest .ensures))
 
 loop-again : tie.Need-loop-again Inv-loop μ-loop
 loop-again c =
@@ -95,16 +95,16 @@ loop-again c =
     let f = c .before .before .before .before .before .before .before .before .before .before .outside in
     let l = c .before .before .before .before .before .before .before .before .before .before .before .before .lacking in
     let v = c .before .before .before .before .before .before .before .lowest in (
-      within-again (a .args .c) (b .left) (v .result) (c .without .result) (b .inv .0) (v .ensures) (c .without .ensures),
+      within-again (a .args .c) (b .left) (v .result) (c .rest .result) (b .inv .0) (v .ensures) (c .rest .ensures (v .result) (v .ensures)),
       λ m k i.
           let h = holding (a .args .live) (a .args .rows .now) m in
           let e = whole (has (a .args .c)) .edge in
           let s = first-serving h k (a .args .c) i (l .result) (l .ensures) (v .result) (c .before .before .before .before .before .before .before .before .before .before .before .less .result) (c .before .before .before .before .before .meet .result) (c .before .before .before .before .less2 .result)
           (b .inv .0 (v .result) (v .ensures .member)) (c .before .before .before .before .before .before .before .before .before .before .before .less .ensures) (c .before .before .before .before .before .meet .ensures) (c .before .before .before .before .less2 .ensures) in
           witness-more h k (a .args .c) e i (f .result) (f .ensures .within) (b .ws) (b .left) (v .result) (c .before .before .before .before .less2 .result)
-          (c .before .before .before .reached .result) (c .before .before .meet2 .result) (c .without .result) (b .inv .1 m k i) (v .ensures) s
+          (c .before .before .before .reached .result) (c .before .before .meet2 .result) (c .rest .result) (b .inv .1 m k i) (v .ensures) s
           (c .before .before .before .reached .ensures (a .args .live) (serving-live h k (a .args .c) e i (v .result) (c .before .before .before .before .less2 .result) s) m k)
-          (c .before .before .meet2 .ensures) (c .without .ensures),
+          (c .before .before .meet2 .ensures) (c .rest .ensures (v .result) (v .ensures)),
     )
 
 returns-2 : tie.Need-returns-2 Inv-loop μ-loop
@@ -138,7 +138,7 @@ first-witnesses-spec =
     reached-requires
     meet-requires-2
     returns
-    without-requires
+    rest-requires
     loop-less
     loop-again
     returns-2)

@@ -37,18 +37,18 @@ join-requires c κs = search needs
 join-requires-2 : tie.Need-join-requires-2 Inv-loop μ-loop
 join-requires-2 c κs = search needs
 
-without-requires : tie.Need-without-requires Inv-loop μ-loop
-without-requires c κs = search needs
+rest-requires : tie.Need-rest-requires Inv-loop μ-loop
+rest-requires c κs = search needs
 
 loop-less : tie.Need-loop-less Inv-loop μ-loop
-loop-less c = left-falls (c .before .before .before .before .before .before .before .before .loop .left) (c .before .before .before .before .before .before .lowest .result) (c .without .result) (c .before .before .before .before .before .before .lowest .ensures) (c .without .ensures)
+loop-less c = left-falls (c .before .before .before .before .before .before .before .before .loop .left) (c .before .before .before .before .before .before .lowest .result) (c .rest .result) (c .before .before .before .before .before .before .lowest .ensures) (c .rest .ensures (c .before .before .before .before .before .before .lowest .result) (c .before .before .before .before .before .before .lowest .ensures))
 
 loop-again : tie.Need-loop-again Inv-loop μ-loop
 loop-again c =
     let a = c .before .before .before .before .before .before .before .before .before .args in
     let b = c .before .before .before .before .before .before .before .before .loop in
     lacking-again (a .live) (a .rows .now) (a .c) (b .once) (b .twice) (b .left) (c .before .before .before .before .before .before .lowest .result) (c .before .before .before .before .less .result) (c .before .before .before .meet .result) (c .before .before .join .result)
-    (c .before .join2 .result) (c .without .result) (b .inv) (c .before .before .before .before .before .before .lowest .ensures) (c .before .before .before .before .less .ensures) (c .before .before .before .meet .ensures) (c .before .before .join .ensures) (c .before .join2 .ensures) (c .without .ensures)
+    (c .before .join2 .result) (c .rest .result) (b .inv) (c .before .before .before .before .before .before .lowest .ensures) (c .before .before .before .before .less .ensures) (c .before .before .before .meet .ensures) (c .before .before .join .ensures) (c .before .join2 .ensures) (c .rest .ensures (c .before .before .before .before .before .before .lowest .result) (c .before .before .before .before .before .before .lowest .ensures))
 
 returns : tie.Need-returns Inv-loop μ-loop
 returns c =
@@ -71,7 +71,7 @@ lacking-spec =
     meet-requires
     join-requires
     join-requires-2
-    without-requires
+    rest-requires
     loop-less
     loop-again
     returns)

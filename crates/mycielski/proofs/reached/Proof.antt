@@ -34,20 +34,20 @@ element-copy-out-join c = search needs
 join-requires : tie.Need-join-requires Inv-loop μ-loop
 join-requires c κs = search needs
 
-without-requires : tie.Need-without-requires Inv-loop μ-loop
-without-requires c κs = search needs
+rest-requires : tie.Need-rest-requires Inv-loop μ-loop
+rest-requires c κs = search needs
 
 loop-less : tie.Need-loop-less Inv-loop μ-loop
-loop-less c = left-falls (c .before .before .before .before .before .loop .left) (c .before .before .before .lowest .result) (c .without .result) (c .before .before .before .lowest .ensures) (c .without .ensures)
+loop-less c = left-falls (c .before .before .before .before .before .loop .left) (c .before .before .before .lowest .result) (c .rest .result) (c .before .before .before .lowest .ensures) (c .rest .ensures (c .before .before .before .lowest .result) (c .before .before .before .lowest .ensures))
 
 loop-again : tie.Need-loop-again Inv-loop μ-loop
 loop-again c =
     let a = c .before .before .before .before .before .before in
     let b = c .before .before .before .before .before .loop in (
-      within-again (a .args .s) (b .left) (c .before .before .before .lowest .result) (c .without .result) (b .inv .0) (c .before .before .before .lowest .ensures) (c .without .ensures),
+      within-again (a .args .s) (b .left) (c .before .before .before .lowest .result) (c .rest .result) (b .inv .0) (c .before .before .before .lowest .ensures) (c .rest .ensures (c .before .before .before .lowest .result) (c .before .before .before .lowest .ensures)),
       λ l m k w.
-          reached-again (holding l (a .args .rows .now) m) k (a .args .s) (b .r) (b .left) (c .before .before .before .lowest .result) (c .before .join .result) (c .without .result) w
-          (b .inv .1 l m k w) (c .before .before .before .lowest .ensures) (c .before .join .ensures) (c .without .ensures),
+          reached-again (holding l (a .args .rows .now) m) k (a .args .s) (b .r) (b .left) (c .before .before .before .lowest .result) (c .before .join .result) (c .rest .result) w
+          (b .inv .1 l m k w) (c .before .before .before .lowest .ensures) (c .before .join .ensures) (c .rest .ensures (c .before .before .before .lowest .result) (c .before .before .before .lowest .ensures)),
     )
 
 returns : tie.Need-returns Inv-loop μ-loop
@@ -69,7 +69,7 @@ reached-spec =
     mul-join
     element-copy-out-join
     join-requires
-    without-requires
+    rest-requires
     loop-less
     loop-again
     returns)

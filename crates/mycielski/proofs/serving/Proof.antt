@@ -33,20 +33,20 @@ element-copy-out-meet c = search needs
 meet-requires : tie.Need-meet-requires Inv-loop μ-loop
 meet-requires c κs = search needs
 
-without-requires : tie.Need-without-requires Inv-loop μ-loop
-without-requires c κs = search needs
+rest-requires : tie.Need-rest-requires Inv-loop μ-loop
+rest-requires c κs = search needs
 
 loop-less : tie.Need-loop-less Inv-loop μ-loop
-loop-less c = left-falls (c .before .before .before .before .before .loop .left) (c .before .before .before .lowest .result) (c .without .result) (c .before .before .before .lowest .ensures) (c .without .ensures)
+loop-less c = left-falls (c .before .before .before .before .before .loop .left) (c .before .before .before .lowest .result) (c .rest .result) (c .before .before .before .lowest .ensures) (c .rest .ensures (c .before .before .before .lowest .result) (c .before .before .before .lowest .ensures))
 
 loop-again : tie.Need-loop-again Inv-loop μ-loop
 loop-again c =
     let a = c .before .before .before .before .before .before in
     let b = c .before .before .before .before .before .loop in (
-      within-again (a .args .near) (b .left) (c .before .before .before .lowest .result) (c .without .result) (b .inv .0) (c .before .before .before .lowest .ensures) (c .without .ensures),
+      within-again (a .args .near) (b .left) (c .before .before .before .lowest .result) (c .rest .result) (b .inv .0) (c .before .before .before .lowest .ensures) (c .rest .ensures (c .before .before .before .lowest .result) (c .before .before .before .lowest .ensures)),
       λ m k l.
-          serving-again (holding (a .args .live) (a .args .rows .now) m) k (a .args .near) (b .s) (b .left) (c .before .before .before .lowest .result) (c .before .meet .result) (c .without .result) l
-          (b .inv .1 m k l) (c .before .before .before .lowest .ensures) (c .before .meet .ensures) (c .without .ensures),
+          serving-again (holding (a .args .live) (a .args .rows .now) m) k (a .args .near) (b .s) (b .left) (c .before .before .before .lowest .result) (c .before .meet .result) (c .rest .result) l
+          (b .inv .1 m k l) (c .before .before .before .lowest .ensures) (c .before .meet .ensures) (c .rest .ensures (c .before .before .before .lowest .result) (c .before .before .before .lowest .ensures)),
     )
 
 returns : tie.Need-returns Inv-loop μ-loop
@@ -68,7 +68,7 @@ serving-spec =
     mul-meet
     element-copy-out-meet
     meet-requires
-    without-requires
+    rest-requires
     loop-less
     loop-again
     returns)

@@ -53,18 +53,18 @@ mul-near-2 c = search needs
 element-write-near-2 : tie.Need-element-write-near-2 Inv-loop μ-loop
 element-write-near-2 c = search needs
 
-without-requires : tie.Need-without-requires Inv-loop μ-loop
-without-requires c κs = search needs
+rest-requires : tie.Need-rest-requires Inv-loop μ-loop
+rest-requires c κs = search needs
 
 loop-less : tie.Need-loop-less Inv-loop μ-loop
-loop-less c = left-falls (c .before .before .before .before .before .loop .left) (c .before .before .before .lowest .result) (c .without .result) (c .before .before .before .lowest .ensures) (c .without .ensures)
+loop-less c = left-falls (c .before .before .before .before .before .loop .left) (c .before .before .before .lowest .result) (c .rest .result) (c .before .before .before .lowest .ensures) (c .rest .ensures (c .before .before .before .lowest .result) (c .before .before .before .lowest .ensures))
 
 loop-again : tie.Need-loop-again Inv-loop μ-loop
 loop-again c =
     let a = c .before .before .before .before .before .before .before .before in
     let b = c .before .before .before .before .before .loop in
     tying-again (a .args .u) (a .args .ys) (set (a .args .near .now) (a .args .u) (c .before .before .before .before .before .before .join .result)) (b .near) (b .left)
-    (c .before .before .before .lowest .result) (c .before .with .result) (c .without .result) (b .inv) (c .before .before .before .lowest .ensures) (c .before .with .ensures) (c .without .ensures)
+    (c .before .before .before .lowest .result) (c .before .with .result) (c .rest .result) (b .inv) (c .before .before .before .lowest .ensures) (c .before .with .ensures) (c .rest .ensures (c .before .before .before .lowest .result) (c .before .before .before .lowest .ensures))
 
 returns : tie.Need-returns Inv-loop μ-loop
 returns c =
@@ -92,7 +92,7 @@ tie-spec =
     with-requires
     mul-near-2
     element-write-near-2
-    without-requires
+    rest-requires
     loop-less
     loop-again
     returns)

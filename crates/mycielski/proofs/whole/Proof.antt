@@ -28,19 +28,19 @@ mul-near c = search needs
 array-write-near : tie.Need-array-write-near Inv-loop μ-loop
 array-write-near c = search needs
 
-without-requires-2 : tie.Need-without-requires-2 Inv-loop μ-loop
-without-requires-2 c κs = search needs
+rest-requires : tie.Need-rest-requires Inv-loop μ-loop
+rest-requires c κs = search needs
 
 loop-less : tie.Need-loop-less Inv-loop μ-loop
 loop-less c =
     let b = c .before .before .before .before in
-    left-falls (b .loop .left) (c .before .before .lowest .result) (c .without2 .result) (c .before .before .lowest .ensures) (c .without2 .ensures)
+    left-falls (b .loop .left) (c .before .before .lowest .result) (c .rest .result) (c .before .before .lowest .ensures) (c .rest .ensures (c .before .before .lowest .result) (c .before .before .lowest .ensures))
 
 loop-again : tie.Need-loop-again Inv-loop μ-loop
 loop-again c =
     let b = c .before .before .before .before in
-    whole-again (b .before .args .c) (b .loop .near) (b .loop .left) (c .before .before .lowest .result) (c .before .without .result) (c .without2 .result)
-    (b .loop .inv) (c .before .before .lowest .ensures) (c .before .without .ensures) (c .without2 .ensures)
+    whole-again (b .before .args .c) (b .loop .near) (b .loop .left) (c .before .before .lowest .result) (c .before .without .result) (c .rest .result)
+    (b .loop .inv) (c .before .before .lowest .ensures) (c .before .without .ensures) (c .rest .ensures (c .before .before .lowest .result) (c .before .before .lowest .ensures))
 
 returns : tie.Need-returns Inv-loop μ-loop
 returns c =
@@ -58,7 +58,7 @@ whole-spec =
     without-requires
     mul-near
     array-write-near
-    without-requires-2
+    rest-requires
     loop-less
     loop-again
     returns)

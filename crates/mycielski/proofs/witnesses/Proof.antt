@@ -67,11 +67,11 @@ returns c =
     (c .before .before .reached .ensures (a .args .live) (serving-live h k (a .args .set) (λ x y. has (getD (a .args .near .now) x 0) y) i (v .result) (s .result) (s .ensures m k)) m k)
     (c .before .meet .ensures) (without-is (b .left) (v .result))))
 
-without-requires : tie.Need-without-requires Inv-loop μ-loop
-without-requires c κs = search needs
+rest-requires : tie.Need-rest-requires Inv-loop μ-loop
+rest-requires c κs = search needs
 
 loop-less : tie.Need-loop-less Inv-loop μ-loop
-loop-less c = left-falls (c .before .before .before .before .before .before .before .before .loop .left) (c .before .before .before .before .before .before .lowest .result) (c .without .result) (c .before .before .before .before .before .before .lowest .ensures) (c .without .ensures)
+loop-less c = left-falls (c .before .before .before .before .before .before .before .before .loop .left) (c .before .before .before .before .before .before .lowest .result) (c .rest .result) (c .before .before .before .before .before .before .lowest .ensures) (c .rest .ensures (c .before .before .before .before .before .before .lowest .result) (c .before .before .before .before .before .before .lowest .ensures))
 
 loop-again : tie.Need-loop-again Inv-loop μ-loop
 loop-again c =
@@ -79,13 +79,13 @@ loop-again c =
     let b = c .before .before .before .before .before .before .before .before .loop in
     let v = c .before .before .before .before .before .before .lowest in
     let s = c .before .before .before .before .serving in (
-      within-again (a .args .set) (b .left) (v .result) (c .without .result) (b .inv .0) (v .ensures) (c .without .ensures),
+      within-again (a .args .set) (b .left) (v .result) (c .rest .result) (b .inv .0) (v .ensures) (c .rest .ensures (v .result) (v .ensures)),
       λ m k i.
           let h = holding (a .args .live) (a .args .rows .now) m in
           witness-more h k (a .args .set) (λ x y. has (getD (a .args .near .now) x 0) y) i (a .args .live) (λ x t. t) (b .ws) (b .left) (v .result) (s .result)
-          (c .before .before .before .reached .result) (c .before .before .meet .result) (c .without .result) (b .inv .1 m k i) (v .ensures) (s .ensures m k)
+          (c .before .before .before .reached .result) (c .before .before .meet .result) (c .rest .result) (b .inv .1 m k i) (v .ensures) (s .ensures m k)
           (c .before .before .before .reached .ensures (a .args .live) (serving-live h k (a .args .set) (λ x y. has (getD (a .args .near .now) x 0) y) i (v .result) (s .result) (s .ensures m k)) m k)
-          (c .before .before .meet .ensures) (c .without .ensures),
+          (c .before .before .meet .ensures) (c .rest .ensures (v .result) (v .ensures)),
     )
 
 returns-2 : tie.Need-returns-2 Inv-loop μ-loop
@@ -113,7 +113,7 @@ witnesses-spec =
     reached-requires
     meet-requires
     returns
-    without-requires
+    rest-requires
     loop-less
     loop-again
     returns-2)
