@@ -14,7 +14,7 @@ ghost use mathlib.Core.Bool.{_&&_};
 ghost use Prim.Native.Nat.{ℕ, _<_};
 ghost use lib.Dec.{T};
 ghost use lib.ListN.{length};
-ghost use Rattle.sets.specs.Set.{has};
+ghost use Rattle.sets.specs.Set.{has, size as sizeOf};
 ghost use Rattle.graphs.specs.Held.{view, Held, Holds, Each};
 ghost use Rattle.cliques.specs.Clique.{clique};
 ghost use Rattle.cliques.specs.Growth.{IsSetOf, Within};
@@ -192,15 +192,18 @@ pub fn extended(live: u64, rows: &[u64; 64], p: Sub, w: usize) -> Sub
     }
 }
 
-// The bound from the clique c, or a bound on the way to it that is as great as is enough, by rounds on H.
-pub fn climb(live: u64, rows: &[u64; 64], c: u64, enough: usize) -> usize
+// The bound from the clique c and W of the first round, or a bound on the way to it that is as great as is enough, by rounds on H.
+pub fn climb(live: u64, rows: &[u64; 64], c: u64, ws: u64, enough: usize) -> usize
     requires { ⌜ Holds live (now rows) ⌝ }
     requires { ⌜ Each live (now rows) (λ h. IsSetOf (clique (h .n) (view h)) c) ⌝ }
+    requires { ⌜ Each live (now rows) (λ h. (x : ℕ) → has ws x ≡ ofW (h .n) (view h) (wholeOf (has c)) x) ⌝ }
+    requires { ⌜ (ws ≡ 0 → ⊥) ⌝ }
+    requires { ⌜ sizeOf 64 c < sizeOf 64 live ⌝ }
     ensures { λ r. ⌜ Each live (now (rows .entry)) (λ h. Climbs (mycielskian (h .n) (view h)) enough r) ⌝ }
 {
     let all = size(live);
-    let mut b = size(c);
-    let mut p = whole(c);
+    let mut b = size(c) + 1;
+    let mut p = extended(live, rows, whole(c), lowest(ws));
     while b < enough {
         if all <= size(p.set) {
             return b;
@@ -231,13 +234,14 @@ pub fn bound_among(live: u64, rows: &[u64; 64], enough: usize) -> usize
     if size(live) <= b {
         return b;
     }
-    if first_witnesses(live, rows, c) == 0 {
+    let ws = first_witnesses(live, rows, c);
+    if ws == 0 {
         return b;
     }
     if enough <= b + 1 {
         return b + 1;
     }
-    climb(live, rows, c, enough)
+    climb(live, rows, c, ws, enough)
 }
 
 // The same of a node.

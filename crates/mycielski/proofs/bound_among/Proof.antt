@@ -78,8 +78,19 @@ returns-4 c =
 climb-requires : tie.Need-climb-requires
 climb-requires c κs =
     let a = c .before .before .before .before .before .before .before .before in
-    let r = c .before .before .before .before .before .before .before .clique-among in
-    (a .pre, λ m k. reaches-short (holding (a .args .live) (a .args .rows .now) m) k (a .args .enough) (r .result) (r .ensures m k) (omega (arith, c .before .before .before .before .before .if1 .left, c .before .before .before .before .before .before .size .ensures)))
+    let r = c .before .before .before .before .before .before .before .clique-among in (
+      a .pre,
+      (
+        λ m k. reaches-short (holding (a .args .live) (a .args .rows .now) m) k (a .args .enough) (r .result) (r .ensures m k) (omega (arith, c .before .before .before .before .before .if1 .left, c .before .before .before .before .before .before .size .ensures)),
+        (
+          λ m k. c .before .before .first-witnesses .ensures m k,
+          (
+            c .before .if3 .left,
+            omega (arith, c .before .before .before .if2 .left, c .before .before .before .before .size2 .ensures, c .before .before .before .before .before .before .size .ensures),
+          ),
+        ),
+      ),
+    )
 
 returns-5 : tie.Need-returns-5
 returns-5 c = λ m k. c .climb .ensures m k

@@ -1,25 +1,30 @@
 -- `mycielski::climb` meets its contract. The loop's invariant: H and the bound so far are those of a round, and the rounds that are left give the
 -- whole's bound. The measure: what the bound lacks of what is enough. Assumes nothing.
-use mathlib.Core.Path.{_≡_, sym, subst}
-use Prim.Native.Nat.{_-_}
+use mathlib.Core.Path.{_≡_, sym, ap, _∙_, subst}
+use mathlib.Core.List.{List}
+use Prim.Native.Nat.{ℕ, suc, _+_, _-_, _<_}
 use native.Mathlib.Nat.{le-of-eq}
 use native.Mathlib.Numerals.{add-one}
 use native.Mathlib.Omega.{arith}
-use Rattle.graphs.specs.Held.{Held, holding}
+use lib.Dec.{T}
+use Rattle.graphs.specs.Held.{view, Held, holding}
 use Rattle.graphs.specs.declared.Node.{Node}
-use Rattle.sets.specs.Set.{has}
-use Rattle.mycielski.specs.Rounds.{Part, whole}
-use Rattle.mycielski.specs.Words.{partOf}
+use Rattle.sets.specs.Set.{has, size, IsLowest}
+use Rattle.cliques.specs.Clique.{clique}
+use Rattle.cliques.specs.Growth.{IsSetOf}
+use Rattle.mycielski.specs.Rounds.{Part, whole, ofW, extend}
+use Rattle.mycielski.specs.Words.{partOf, Inside}
+use Rattle.mycielski.specs.declared.Sub.{Sub}
 use Rattle.mycielski.proofs.ClimbLaws.{Climb, climb-start, climb-inside, climb-le, climb-full, climb-none, climb-more, climb-w, climb-next}
 use borrow.Author.Needs.{needs}
 use Rattle.mycielski.proofs.climb.Statement.{statement}
 use Rattle.mycielski.proofs.climb.Tie as tie
 
 abbrev Inv-loop : tie.InvT-loop
-Inv-loop live rows c enough all b₀ p₀ b p = (m : Node) → (k : Held (holding live rows m)) → Climb (holding live rows m) k (partOf p) b
+Inv-loop live rows c ws enough all b₀ p₀ b p = (m : Node) → (k : Held (holding live rows m)) → Climb (holding live rows m) k (partOf p) b
 
 abbrev μ-loop : tie.MeasureT-loop
-μ-loop live rows c enough all b₀ p₀ b p = enough - b
+μ-loop live rows c ws enough all b₀ p₀ b p = enough - b
 
 size-requires : tie.Need-size-requires Inv-loop μ-loop
 size-requires c κs = search needs
@@ -27,42 +32,88 @@ size-requires c κs = search needs
 size-requires-2 : tie.Need-size-requires-2 Inv-loop μ-loop
 size-requires-2 c κs = search needs
 
+add-b : tie.Need-add-b Inv-loop μ-loop
+add-b c = search needs
+
 whole-requires : tie.Need-whole-requires Inv-loop μ-loop
 whole-requires c κs = search needs
 
+lowest-requires : tie.Need-lowest-requires Inv-loop μ-loop
+lowest-requires c κs = c .before .before .before .pre .1 .1 .1 .0
+
+-- the first round, from the clique
+module _ (live ws : ℕ) (rows : List ℕ) (c : ℕ) (p : Sub) (e : partOf p ≡ whole (has c)) (m : Node) (k : Held (holding live rows m))
+    (q : IsSetOf (clique (holding live rows m .n) (view (holding live rows m))) c) where
+  abbrev h : Node
+  h = holding live rows m
+
+  first : Climb h k (whole (has c)) (size 64 c)
+  first = climb-start h k c q
+
+  first-inside : Inside live p
+  first-inside = climb-inside h k p (size 64 c) (subst (λ H. Climb h k H (size 64 c)) (sym e) first)
+
+  module _ (l : size 64 c < size 64 live) (s : (x : ℕ) → has ws x ≡ ofW (h .n) (view h) (whole (has c)) x) (w : ℕ) (v : IsLowest 64 ws w) where
+    first-w : T (ofW (h .n) (view h) (partOf p) w)
+    first-w = subst (λ H. T (ofW (h .n) (view h) H w)) (sym e) (climb-w h k c (whole (has c) .edge) (size 64 c) first l ws s w v)
+
+    first-next : (r : Sub) → partOf r ≡ extend (h .n) (view h) (partOf p) w → Climb h k (partOf r) (suc (size 64 c))
+    first-next r f =
+        climb-next h k c (whole (has c) .edge) (size 64 c) first l ws s w v (partOf r) (f ∙ ap (λ (H : Part). extend (h .n) (view h) H w) e)
+
+extended-requires : tie.Need-extended-requires Inv-loop μ-loop
+extended-requires c κs =
+    let a = c .before .before .before .before in
+    let p = c .before .whole in
+    let q = a .pre .0 in (
+      q,
+      (
+        first-inside (a .args .live) (a .args .ws) (a .args .rows .now) (a .args .c) (p .result) (p .ensures) (q .0) (q .1) (a .pre .1 .0 (q .0) (q .1)),
+        (
+          c .lowest .ensures .below,
+          λ m k.
+              first-w (a .args .live) (a .args .ws) (a .args .rows .now) (a .args .c) (p .result) (p .ensures) m k (a .pre .1 .0 m k) (a .pre .1 .1 .1 .1)
+              (a .pre .1 .1 .0 m k) (c .lowest .result) (c .lowest .ensures),
+        ),
+      ),
+    )
+
 loop-holds : tie.Need-loop-holds Inv-loop μ-loop
 loop-holds c =
-    let a = c .before .before .before in
+    let a = c .before .before .before .before .before in
+    let p = c .before .before .whole in
+    let b = c .before .before .before .size2 in
     λ m k.
-    let h = holding (a .args .live) (a .args .rows .now) m in
-    subst (λ H. Climb h k H (c .before .size2 .result)) (sym (c .whole .ensures))
-    (subst (λ b. Climb h k (whole (has (a .args .c))) b) (sym (c .before .size2 .ensures)) (climb-start h k (a .args .c) (a .pre .1 m k)))
+    let e : suc (size 64 (a .args .c)) ≡ b .result + 1 = omega (arith, b .ensures) in
+    subst (λ b. Climb (holding (a .args .live) (a .args .rows .now) m) k (partOf (c .extended .result)) b) e
+    (first-next (a .args .live) (a .args .ws) (a .args .rows .now) (a .args .c) (p .result) (p .ensures) m k (a .pre .1 .0 m k) (a .pre .1 .1 .1 .1)
+    (a .pre .1 .1 .0 m k) (c .before .lowest .result) (c .before .lowest .ensures) (c .extended .result) (c .extended .ensures m k))
 
 size-requires-3 : tie.Need-size-requires-3 Inv-loop μ-loop
 size-requires-3 c κs = search needs
 
 returns : tie.Need-returns Inv-loop μ-loop
 returns c =
-    let a = c .before .before .before .before .before .before .before in
+    let a = c .before .before .before .before .before .before .before .before .before in
     let l = c .before .before .before .loop in
     λ m k.
     let h = holding (a .args .live) (a .args .rows .now) m in
-    let e = climb-full h k (l .p .set) (partOf (l .p) .edge) (l .b) (l .inv m k) (omega (arith, c .if1 .taken, c .before .before .before .before .before .before .size .ensures, c .before .size3 .ensures)) in
+    let e = climb-full h k (l .p .set) (partOf (l .p) .edge) (l .b) (l .inv m k) (omega (arith, c .if1 .taken, c .before .before .before .before .before .before .before .before .size .ensures, c .before .size3 .ensures)) in
     record { most = le-of-eq e; whole = λ q. e }
 
 witnesses-requires : tie.Need-witnesses-requires Inv-loop μ-loop
 witnesses-requires c κs =
-    let a = c .before .before .before .before .before .before .before .before .before in
+    let a = c .before .before .before .before .before .before .before .before .before .before .before in
     let l = c .before .before .before .before .before .loop in
     climb-inside (holding (a .args .live) (a .args .rows .now) (a .pre .0 .0)) (a .pre .0 .1) (l .p) (l .b) (l .inv (a .pre .0 .0) (a .pre .0 .1))
 
 returns-2 : tie.Need-returns-2 Inv-loop μ-loop
 returns-2 c =
-    let a = c .before .before .before .before .before .before .before .before .before .before .before in
+    let a = c .before .before .before .before .before .before .before .before .before .before .before .before .before in
     let l = c .before .before .before .before .before .before .before .loop in
     λ m k.
     let h = holding (a .args .live) (a .args .rows .now) m in
-    let e = climb-none h k (l .p .set) (partOf (l .p) .edge) (l .b) (l .inv m k) (omega (arith, c .before .before .before .before .if1 .left, c .before .before .before .before .before .before .before .before .before .before .size .ensures, c .before .before .before .before .before .size3 .ensures))
+    let e = climb-none h k (l .p .set) (partOf (l .p) .edge) (l .b) (l .inv m k) (omega (arith, c .before .before .before .before .if1 .left, c .before .before .before .before .before .before .before .before .before .before .before .before .size .ensures, c .before .before .before .before .before .size3 .ensures))
     (c .before .witnesses .result) (c .before .witnesses .ensures m k) (c .if2 .taken) in
     record { most = le-of-eq e; whole = λ q. e }
 
@@ -74,53 +125,53 @@ add-result c = search needs
 
 returns-3 : tie.Need-returns-3 Inv-loop μ-loop
 returns-3 c =
-    let a = c .before .before .before .before .before .before .before .before .before .before .before .before in
+    let a = c .before .before .before .before .before .before .before .before .before .before .before .before .before .before in
     let l = c .before .before .before .before .before .before .before .before .loop in
     λ m k.
     let h = holding (a .args .live) (a .args .rows .now) m in
-    let e = climb-more h k (l .p .set) (partOf (l .p) .edge) (l .b) (l .inv m k) (omega (arith, c .before .before .before .before .before .if1 .left, c .before .before .before .before .before .before .before .before .before .before .before .size .ensures, c .before .before .before .before .before .before .size3 .ensures))
+    let e = climb-more h k (l .p .set) (partOf (l .p) .edge) (l .b) (l .inv m k) (omega (arith, c .before .before .before .before .before .if1 .left, c .before .before .before .before .before .before .before .before .before .before .before .before .before .size .ensures, c .before .before .before .before .before .before .size3 .ensures))
     (c .before .before .witnesses .result) (c .before .before .witnesses .ensures m k) (c .before .if2 .left) in
     record { most = rw (add-one (l .b)) e; whole = λ q. absurd (let z : ⊥ = omega (arith, c .if3 .taken) in z) }
 
-lowest-requires : tie.Need-lowest-requires Inv-loop μ-loop
-lowest-requires c κs = search needs
+lowest-requires-2 : tie.Need-lowest-requires-2 Inv-loop μ-loop
+lowest-requires-2 c κs = search needs
 
-extended-requires : tie.Need-extended-requires Inv-loop μ-loop
-extended-requires c κs =
-    let a = c .before .before .before .before .before .before .before .before .before .before .before .before .before in
+extended-requires-2 : tie.Need-extended-requires-2 Inv-loop μ-loop
+extended-requires-2 c κs =
+    let a = c .before .before .before .before .before .before .before .before .before .before .before .before .before .before .before in
     let l = c .before .before .before .before .before .before .before .before .before .loop in
     let q = a .pre .0 in (
       q,
       (
         climb-inside (holding (a .args .live) (a .args .rows .now) (q .0)) (q .1) (l .p) (l .b) (l .inv (q .0) (q .1)),
         (
-          c .lowest .ensures .below,
+          c .lowest2 .ensures .below,
           λ m k.
               climb-w (holding (a .args .live) (a .args .rows .now) m) k (l .p .set) (partOf (l .p) .edge) (l .b) (l .inv m k)
-              (omega (arith, c .before .before .before .before .before .before .if1 .left, c .before .before .before .before .before .before .before .before .before .before .before .before .size .ensures, c .before .before .before .before .before .before .before .size3 .ensures)) (c .before .before .before .witnesses .result) (c .before .before .before .witnesses .ensures m k) (c .lowest .result) (c .lowest .ensures),
+              (omega (arith, c .before .before .before .before .before .before .if1 .left, c .before .before .before .before .before .before .before .before .before .before .before .before .before .before .size .ensures, c .before .before .before .before .before .before .before .size3 .ensures)) (c .before .before .before .witnesses .result) (c .before .before .before .witnesses .ensures m k) (c .lowest2 .result) (c .lowest2 .ensures),
         ),
       ),
     )
 
-add-b : tie.Need-add-b Inv-loop μ-loop
-add-b c = search needs
+add-b-2 : tie.Need-add-b-2 Inv-loop μ-loop
+add-b-2 c = search needs
 
 loop-less : tie.Need-loop-less Inv-loop μ-loop
 loop-less c = search needs
 
 loop-again : tie.Need-loop-again Inv-loop μ-loop
 loop-again c =
-    let a = c .before .before .before .before .before .before .before .before .before .before .before .before .before .before in
+    let a = c .before .before .before .before .before .before .before .before .before .before .before .before .before .before .before .before in
     let l = c .before .before .before .before .before .before .before .before .before .before .loop in
     λ m k.
     rw (add-one (l .b))
     (climb-next (holding (a .args .live) (a .args .rows .now) m) k (l .p .set) (partOf (l .p) .edge) (l .b) (l .inv m k)
-    (omega (arith, c .before .before .before .before .before .before .before .if1 .left, c .before .before .before .before .before .before .before .before .before .before .before .before .before .size .ensures, c .before .before .before .before .before .before .before .before .size3 .ensures)) (c .before .before .before .before .witnesses .result) (c .before .before .before .before .witnesses .ensures m k) (c .before .lowest .result) (c .before .lowest .ensures)
-    (partOf (c .extended .result)) (c .extended .ensures m k))
+    (omega (arith, c .before .before .before .before .before .before .before .if1 .left, c .before .before .before .before .before .before .before .before .before .before .before .before .before .before .before .size .ensures, c .before .before .before .before .before .before .before .before .size3 .ensures)) (c .before .before .before .before .witnesses .result) (c .before .before .before .before .witnesses .ensures m k) (c .before .lowest2 .result) (c .before .lowest2 .ensures)
+    (partOf (c .extended2 .result)) (c .extended2 .ensures m k))
 
 returns-4 : tie.Need-returns-4 Inv-loop μ-loop
 returns-4 c =
-    let a = c .before .before .before .before .before in
+    let a = c .before .before .before .before .before .before .before in
     let l = c .before .loop in
     λ m k.
     record {
@@ -136,7 +187,10 @@ climb-spec =
     μ-loop
     size-requires
     size-requires-2
+    add-b
     whole-requires
+    lowest-requires
+    extended-requires
     loop-holds
     size-requires-3
     returns
@@ -145,9 +199,9 @@ climb-spec =
     add-if3
     add-result
     returns-3
-    lowest-requires
-    extended-requires
-    add-b
+    lowest-requires-2
+    extended-requires-2
+    add-b-2
     loop-less
     loop-again
     returns-4)
