@@ -24,7 +24,7 @@ pub part-ext : (p q : Part) → ((x : ℕ) → p .vert x ≡ q .vert x) → ((x 
 part-ext p q a b = λ i. record { vert = λ x. a x i; edge = λ x y. b x y i }
 
 -- the element at x after a store at v
-getD-set : (l : List ℕ) (v a x : ℕ) → v < length l → (P : ℕ → Type 0) → (v ≡ x → P a) → (v ≢ x → P (getD l x zero)) → P (getD (set l v a) x zero)
+pub getD-set : (l : List ℕ) (v a x : ℕ) → v < length l → (P : ℕ → Type 0) → (v ≡ x → P a) → (v ≢ x → P (getD l x zero)) → P (getD (set l v a) x zero)
 getD-set l v a x b P f g = go (ℕ-discrete v x)
   where
     go : Dec (v ≡ x) → P (getD (set l v a) x zero)

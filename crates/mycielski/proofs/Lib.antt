@@ -4,6 +4,7 @@ pub mod RoundLaws
 mod DoneLaws
 mod SetLoops
 mod EdgeLoops
+mod FitLoops
 mod WitnessLoops
 mod FirstLoops
 mod RoundLoops

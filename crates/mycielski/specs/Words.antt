@@ -3,6 +3,8 @@
 --   partOf p    : the part that the words p hold
 --   Inside live p : p's vertices, and the ends of its edges, are among the live vertices
 --   reachable n g s w : w is adjacent to some member of s
+--   Serves n g p fit  : fit has S(v) at each v of p
+--   ServesAll n g c fit : the same where every two members of c are joined
 --   Ties near u ys r  : r has as many rows, the edges of near, and one between u and each member of ys, both ways
 --   misses rows c x   : how many members of c do not have x in their row
 --   Lacks live rows c m : m has the live vertices that lack a member of c, and those that lack two
@@ -21,7 +23,7 @@ use Rattle.sets.specs.Lists.{any, count, upto}
 use Rattle.sets.specs.Set.{has}
 use Rattle.graphs.specs.Graph.{Graph}
 use Rattle.cliques.specs.Growth.{Within}
-use Rattle.mycielski.specs.Rounds.{Part}
+use Rattle.mycielski.specs.Rounds.{Part, whole, nearAll}
 use Rattle.mycielski.specs.declared.Sub.{Sub}
 use Rattle.mycielski.specs.declared.Lack.{Lack}
 
@@ -34,6 +36,12 @@ pub record Inside (live : ℕ) (p : Sub) : Type 0 where
 
 abbrev pub reachable : ℕ → Graph → ℕ → ℕ → Bool
 reachable n g s w = any n (λ x. has s x && g .adj w x)
+
+abbrev pub Serves : ℕ → Graph → Sub → List ℕ → Type 0
+Serves n g p fit = (v : ℕ) → T (has (p .set) v) → (x : ℕ) → has (getD fit v zero) x ≡ nearAll n g (has (getD (p .near) v zero)) x
+
+abbrev pub ServesAll : ℕ → Graph → ℕ → List ℕ → Type 0
+ServesAll n g c fit = (v : ℕ) → T (has c v) → (x : ℕ) → has (getD fit v zero) x ≡ nearAll n g (whole (has c) .edge v) x
 
 pub record Ties (near : List ℕ) (u ys : ℕ) (r : List ℕ) : Type 0 where
   pub long : length r ≡ length near

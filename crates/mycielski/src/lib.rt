@@ -19,7 +19,7 @@ ghost use Rattle.graphs.specs.Held.{view, Held, Holds, Each};
 ghost use Rattle.cliques.specs.Clique.{clique};
 ghost use Rattle.cliques.specs.Growth.{IsSetOf, Within};
 ghost use Rattle.mycielski.specs.Rounds.{whole as wholeOf, nearAll, ofW, extend, mycielskian};
-ghost use Rattle.mycielski.specs.Words.{partOf, Inside, reachable, Ties, Lacks, Outside, Climbs};
+ghost use Rattle.mycielski.specs.Words.{partOf, Inside, reachable, Serves, ServesAll, Ties, Lacks, Outside, Climbs};
 
 // H: its vertices, and for each the vertices that an edge of H joins it to.
 pub struct Sub {
@@ -163,13 +163,46 @@ pub fn witnesses(live: u64, rows: &[u64; 64], set: u64, near: &[u64; 64]) -> u64
     ws
 }
 
-// H after a round with w of W: for each v of the old H the lowest member of S(v) that is adjacent to w comes in, tied to w and to v's old
-// H-neighbours.
-pub fn extended(live: u64, rows: &[u64; 64], p: Sub, w: usize) -> Sub
+// S(v) of each v in H.
+pub fn servings(live: u64, rows: &[u64; 64], set: u64, near: &[u64; 64]) -> [u64; 64]
+    requires { ⌜ Inside live (record { set = set; near = now near }) ⌝ }
+    ensures { λ r. ⌜ Each live (now (rows .entry)) (λ h. Serves (h .n) (view h) (record { set = set; near = now (near .entry) }) r) ⌝ }
+{
+    let mut fit = [0u64; 64];
+    let mut left = set;
+    while left != 0 {
+        let v = lowest(left);
+        fit[v] = serving(live, rows, near[v]);
+        left = rest(left);
+    }
+    fit
+}
+
+// The same where H is the set c with every edge, by who lacks one member of c, and who two.
+pub fn first_servings(live: u64, rows: &[u64; 64], c: u64) -> [u64; 64]
+    requires { ⌜ Within c live ⌝ }
+    ensures { λ r. ⌜ Each live (now (rows .entry)) (λ h. ServesAll (h .n) (view h) c r) ⌝ }
+{
+    let lack = lacking(live, rows, c);
+    let single = less(live, lack.twice);
+    let mut fit = [0u64; 64];
+    let mut left = c;
+    while left != 0 {
+        let v = lowest(left);
+        fit[v] = less(single, meet(lack.once, rows[v]));
+        left = rest(left);
+    }
+    fit
+}
+
+// H after a round with w of W, where `fit` has S(v): for each v of the old H the lowest member of S(v) that is adjacent to w comes in, tied to w
+// and to v's old H-neighbours.
+pub fn extended(live: u64, rows: &[u64; 64], p: Sub, w: usize, fit: &[u64; 64]) -> Sub
     requires { ⌜ Holds live (now rows) ⌝ }
     requires { ⌜ Inside live p ⌝ }
     requires { ⌜ w < 64 ⌝ }
     requires { ⌜ Each live (now rows) (λ h. T (ofW (h .n) (view h) (partOf p) w)) ⌝ }
+    requires { ⌜ Each live (now rows) (λ h. Serves (h .n) (view h) p (now fit)) ⌝ }
     ensures { λ r. ⌜ Each live (now (rows .entry)) (λ h. partOf r ≡ extend (h .n) (view h) (partOf p) w) ⌝ }
 {
     let row = rows[w];
@@ -179,7 +212,7 @@ pub fn extended(live: u64, rows: &[u64; 64], p: Sub, w: usize) -> Sub
     let mut left = p.set;
     while left != 0 {
         let v = lowest(left);
-        let s = serving(live, rows, old[v]);
+        let s = fit[v];
         let u = lowest(meet(s, row));
         set = with(set, u);
         let ys = with(old[v], w);
@@ -203,7 +236,8 @@ pub fn climb(live: u64, rows: &[u64; 64], c: u64, ws: u64, enough: usize) -> usi
 {
     let all = size(live);
     let mut b = size(c) + 1;
-    let mut p = extended(live, rows, whole(c), lowest(ws));
+    let fit = first_servings(live, rows, c);
+    let mut p = extended(live, rows, whole(c), lowest(ws), &fit);
     while b < enough {
         if all <= size(p.set) {
             return b;
@@ -215,7 +249,8 @@ pub fn climb(live: u64, rows: &[u64; 64], c: u64, ws: u64, enough: usize) -> usi
         if enough <= b + 1 {
             return b + 1;
         }
-        p = extended(live, rows, p, lowest(ws));
+        let fit = servings(live, rows, p.set, &p.near);
+        p = extended(live, rows, p, lowest(ws), &fit);
         b = b + 1;
     }
     b

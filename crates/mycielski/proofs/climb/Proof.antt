@@ -12,10 +12,10 @@ use Rattle.graphs.specs.declared.Node.{Node}
 use Rattle.sets.specs.Set.{has, size, IsLowest}
 use Rattle.cliques.specs.Clique.{clique}
 use Rattle.cliques.specs.Growth.{IsSetOf}
-use Rattle.mycielski.specs.Rounds.{Part, whole, ofW, extend}
-use Rattle.mycielski.specs.Words.{partOf, Inside}
+use Rattle.mycielski.specs.Rounds.{Part, whole, nearAll, ofW, extend}
+use Rattle.mycielski.specs.Words.{partOf, Inside, Serves, ServesAll}
 use Rattle.mycielski.specs.declared.Sub.{Sub}
-use Rattle.mycielski.proofs.ClimbLaws.{Climb, climb-start, climb-inside, climb-le, climb-full, climb-none, climb-more, climb-w, climb-next}
+use Rattle.mycielski.proofs.ClimbLaws.{Climb, clique-live, climb-start, climb-inside, climb-le, climb-full, climb-none, climb-more, climb-w, climb-next}
 use borrow.Author.Needs.{needs}
 use Rattle.mycielski.proofs.climb.Statement.{statement}
 use Rattle.mycielski.proofs.climb.Tie as tie
@@ -35,11 +35,17 @@ size-requires-2 c κs = search needs
 add-b : tie.Need-add-b Inv-loop μ-loop
 add-b c = search needs
 
+first-servings-requires : tie.Need-first-servings-requires Inv-loop μ-loop
+first-servings-requires c κs =
+    let a = c .before .before in
+    let q = a .pre .0 in
+    clique-live (holding (a .args .live) (a .args .rows .now) (q .0)) (q .1) (a .args .c) (a .pre .1 .0 (q .0) (q .1))
+
 whole-requires : tie.Need-whole-requires Inv-loop μ-loop
 whole-requires c κs = search needs
 
 lowest-requires : tie.Need-lowest-requires Inv-loop μ-loop
-lowest-requires c κs = c .before .before .before .pre .1 .1 .1 .0
+lowest-requires c κs = c .before .before .before .before .pre .1 .1 .1 .0
 
 -- the first round, from the clique
 module _ (live ws : ℕ) (rows : List ℕ) (c : ℕ) (p : Sub) (e : partOf p ≡ whole (has c)) (m : Node) (k : Held (holding live rows m))
@@ -53,6 +59,10 @@ module _ (live ws : ℕ) (rows : List ℕ) (c : ℕ) (p : Sub) (e : partOf p ≡
   first-inside : Inside live p
   first-inside = climb-inside h k p (size 64 c) (subst (λ H. Climb h k H (size 64 c)) (sym e) first)
 
+  first-fit : (fit : List ℕ) → ServesAll (h .n) (view h) c fit → Serves (h .n) (view h) p fit
+  first-fit fit f v t x =
+      f v (subst T (ap (λ (H : Part). H .vert v) e) t) x ∙ sym (ap (λ (H : Part). nearAll (h .n) (view h) (H .edge v) x) e)
+
   module _ (l : size 64 c < size 64 live) (s : (x : ℕ) → has ws x ≡ ofW (h .n) (view h) (whole (has c)) x) (w : ℕ) (v : IsLowest 64 ws w) where
     first-w : T (ofW (h .n) (view h) (partOf p) w)
     first-w = subst (λ H. T (ofW (h .n) (view h) H w)) (sym e) (climb-w h k c (whole (has c) .edge) (size 64 c) first l ws s w v)
@@ -63,57 +73,63 @@ module _ (live ws : ℕ) (rows : List ℕ) (c : ℕ) (p : Sub) (e : partOf p ≡
 
 extended-requires : tie.Need-extended-requires Inv-loop μ-loop
 extended-requires c κs =
-    let a = c .before .before .before .before in
-    let p = c .before .whole in
+    let a = c .before .before .before .before .before .before in
+    let p = c .before .before .whole in
     let q = a .pre .0 in (
       q,
       (
         first-inside (a .args .live) (a .args .ws) (a .args .rows .now) (a .args .c) (p .result) (p .ensures) (q .0) (q .1) (a .pre .1 .0 (q .0) (q .1)),
         (
-          c .lowest .ensures .below,
-          λ m k.
-              first-w (a .args .live) (a .args .ws) (a .args .rows .now) (a .args .c) (p .result) (p .ensures) m k (a .pre .1 .0 m k) (a .pre .1 .1 .1 .1)
-              (a .pre .1 .1 .0 m k) (c .lowest .result) (c .lowest .ensures),
+          c .before .lowest .ensures .below,
+          (
+            λ m k.
+                first-w (a .args .live) (a .args .ws) (a .args .rows .now) (a .args .c) (p .result) (p .ensures) m k (a .pre .1 .0 m k) (a .pre .1 .1 .1 .1)
+                (a .pre .1 .1 .0 m k) (c .before .lowest .result) (c .before .lowest .ensures),
+            λ m k.
+                first-fit (a .args .live) (a .args .ws) (a .args .rows .now) (a .args .c) (p .result) (p .ensures) m k (a .pre .1 .0 m k)
+                (c .before .before .before .first-servings .result) (c .before .before .before .first-servings .ensures m k),
+          ),
         ),
       ),
     )
 
 loop-holds : tie.Need-loop-holds Inv-loop μ-loop
 loop-holds c =
-    let a = c .before .before .before .before .before in
-    let p = c .before .before .whole in
-    let b = c .before .before .before .size2 in
+    let a = c .before .before .before .before .before .before .before in
+    let p = c .before .before .before .whole in
+    let b = c .before .before .before .before .before .size2 in
+    let w = c .before .before .lowest in
     λ m k.
     let e : suc (size 64 (a .args .c)) ≡ b .result + 1 = omega (arith, b .ensures) in
     subst (λ b. Climb (holding (a .args .live) (a .args .rows .now) m) k (partOf (c .extended .result)) b) e
     (first-next (a .args .live) (a .args .ws) (a .args .rows .now) (a .args .c) (p .result) (p .ensures) m k (a .pre .1 .0 m k) (a .pre .1 .1 .1 .1)
-    (a .pre .1 .1 .0 m k) (c .before .lowest .result) (c .before .lowest .ensures) (c .extended .result) (c .extended .ensures m k))
+    (a .pre .1 .1 .0 m k) (w .result) (w .ensures) (c .extended .result) (c .extended .ensures m k))
 
 size-requires-3 : tie.Need-size-requires-3 Inv-loop μ-loop
 size-requires-3 c κs = search needs
 
 returns : tie.Need-returns Inv-loop μ-loop
 returns c =
-    let a = c .before .before .before .before .before .before .before .before .before in
+    let a = c .before .before .before .before .before .before .before .before .before .before .before in
     let l = c .before .before .before .loop in
     λ m k.
     let h = holding (a .args .live) (a .args .rows .now) m in
-    let e = climb-full h k (l .p .set) (partOf (l .p) .edge) (l .b) (l .inv m k) (omega (arith, c .if1 .taken, c .before .before .before .before .before .before .before .before .size .ensures, c .before .size3 .ensures)) in
+    let e = climb-full h k (l .p .set) (partOf (l .p) .edge) (l .b) (l .inv m k) (omega (arith, c .if1 .taken, c .before .before .before .before .before .before .before .before .before .before .size .ensures, c .before .size3 .ensures)) in
     record { most = le-of-eq e; whole = λ q. e }
 
 witnesses-requires : tie.Need-witnesses-requires Inv-loop μ-loop
 witnesses-requires c κs =
-    let a = c .before .before .before .before .before .before .before .before .before .before .before in
+    let a = c .before .before .before .before .before .before .before .before .before .before .before .before .before in
     let l = c .before .before .before .before .before .loop in
     climb-inside (holding (a .args .live) (a .args .rows .now) (a .pre .0 .0)) (a .pre .0 .1) (l .p) (l .b) (l .inv (a .pre .0 .0) (a .pre .0 .1))
 
 returns-2 : tie.Need-returns-2 Inv-loop μ-loop
 returns-2 c =
-    let a = c .before .before .before .before .before .before .before .before .before .before .before .before .before in
+    let a = c .before .before .before .before .before .before .before .before .before .before .before .before .before .before .before in
     let l = c .before .before .before .before .before .before .before .loop in
     λ m k.
     let h = holding (a .args .live) (a .args .rows .now) m in
-    let e = climb-none h k (l .p .set) (partOf (l .p) .edge) (l .b) (l .inv m k) (omega (arith, c .before .before .before .before .if1 .left, c .before .before .before .before .before .before .before .before .before .before .before .before .size .ensures, c .before .before .before .before .before .size3 .ensures))
+    let e = climb-none h k (l .p .set) (partOf (l .p) .edge) (l .b) (l .inv m k) (omega (arith, c .before .before .before .before .if1 .left, c .before .before .before .before .before .before .before .before .before .before .before .before .before .before .size .ensures, c .before .before .before .before .before .size3 .ensures))
     (c .before .witnesses .result) (c .before .witnesses .ensures m k) (c .if2 .taken) in
     record { most = le-of-eq e; whole = λ q. e }
 
@@ -125,53 +141,62 @@ add-result c = search needs
 
 returns-3 : tie.Need-returns-3 Inv-loop μ-loop
 returns-3 c =
-    let a = c .before .before .before .before .before .before .before .before .before .before .before .before .before .before in
+    let a = c .before .before .before .before .before .before .before .before .before .before .before .before .before .before .before .before in
     let l = c .before .before .before .before .before .before .before .before .loop in
     λ m k.
     let h = holding (a .args .live) (a .args .rows .now) m in
-    let e = climb-more h k (l .p .set) (partOf (l .p) .edge) (l .b) (l .inv m k) (omega (arith, c .before .before .before .before .before .if1 .left, c .before .before .before .before .before .before .before .before .before .before .before .before .before .size .ensures, c .before .before .before .before .before .before .size3 .ensures))
+    let e = climb-more h k (l .p .set) (partOf (l .p) .edge) (l .b) (l .inv m k) (omega (arith, c .before .before .before .before .before .if1 .left, c .before .before .before .before .before .before .before .before .before .before .before .before .before .before .before .size .ensures, c .before .before .before .before .before .before .size3 .ensures))
     (c .before .before .witnesses .result) (c .before .before .witnesses .ensures m k) (c .before .if2 .left) in
     record { most = rw (add-one (l .b)) e; whole = λ q. absurd (let z : ⊥ = omega (arith, c .if3 .taken) in z) }
 
+servings-requires : tie.Need-servings-requires Inv-loop μ-loop
+servings-requires c κs =
+    let a = c .before .before .before .before .before .before .before .before .before .before .before .before .before .before .before .before .before .before in
+    let l = c .before .before .before .before .before .before .before .before .before .before .loop in
+    climb-inside (holding (a .args .live) (a .args .rows .now) (a .pre .0 .0)) (a .pre .0 .1) (l .p) (l .b) (l .inv (a .pre .0 .0) (a .pre .0 .1))
+
 lowest-requires-2 : tie.Need-lowest-requires-2 Inv-loop μ-loop
-lowest-requires-2 c κs = search needs
+lowest-requires-2 c κs = c .before .before .before .before .if2 .left
 
 extended-requires-2 : tie.Need-extended-requires-2 Inv-loop μ-loop
 extended-requires-2 c κs =
-    let a = c .before .before .before .before .before .before .before .before .before .before .before .before .before .before .before in
-    let l = c .before .before .before .before .before .before .before .before .before .loop in
+    let a = c .before .before .before .before .before .before .before .before .before .before .before .before .before .before .before .before .before .before .before .before .before in
+    let l = c .before .before .before .before .before .before .before .before .before .before .before .before .before .loop in
     let q = a .pre .0 in (
       q,
       (
         climb-inside (holding (a .args .live) (a .args .rows .now) (q .0)) (q .1) (l .p) (l .b) (l .inv (q .0) (q .1)),
         (
-          c .lowest2 .ensures .below,
-          λ m k.
-              climb-w (holding (a .args .live) (a .args .rows .now) m) k (l .p .set) (partOf (l .p) .edge) (l .b) (l .inv m k)
-              (omega (arith, c .before .before .before .before .before .before .if1 .left, c .before .before .before .before .before .before .before .before .before .before .before .before .before .before .size .ensures, c .before .before .before .before .before .before .before .size3 .ensures)) (c .before .before .before .witnesses .result) (c .before .before .before .witnesses .ensures m k) (c .lowest2 .result) (c .lowest2 .ensures),
+          c .before .lowest2 .ensures .below,
+          (
+            λ m k.
+                climb-w (holding (a .args .live) (a .args .rows .now) m) k (l .p .set) (partOf (l .p) .edge) (l .b) (l .inv m k)
+                (omega (arith, c .before .before .before .before .before .before .before .before .before .before .if1 .left, c .before .before .before .before .before .before .before .before .before .before .before .before .before .before .before .before .before .before .before .before .size .ensures, c .before .before .before .before .before .before .before .before .before .before .before .size3 .ensures)) (c .before .before .before .before .before .before .before .witnesses .result) (c .before .before .before .before .before .before .before .witnesses .ensures m k) (c .before .lowest2 .result) (c .before .lowest2 .ensures),
+            λ m k. c .before .before .servings .ensures m k,
+          ),
         ),
       ),
     )
 
 add-b-2 : tie.Need-add-b-2 Inv-loop μ-loop
-add-b-2 c = search needs
+add-b-2 c = omega (arith, c .before .before .before .before .before .before .before .before .before .before .before .before .before .loop-test .taken, c .before .before .before .before .before .before .before .before .before .before .before .before .before .before .before .before .before .before .before .before .before .before .fits .enough .fits)
 
 loop-less : tie.Need-loop-less Inv-loop μ-loop
 loop-less c = search needs
 
 loop-again : tie.Need-loop-again Inv-loop μ-loop
 loop-again c =
-    let a = c .before .before .before .before .before .before .before .before .before .before .before .before .before .before .before .before in
-    let l = c .before .before .before .before .before .before .before .before .before .before .loop in
+    let a = c .before .before .before .before .before .before .before .before .before .before .before .before .before .before .before .before .before .before .before .before .before .before in
+    let l = c .before .before .before .before .before .before .before .before .before .before .before .before .before .before .loop in
     λ m k.
     rw (add-one (l .b))
     (climb-next (holding (a .args .live) (a .args .rows .now) m) k (l .p .set) (partOf (l .p) .edge) (l .b) (l .inv m k)
-    (omega (arith, c .before .before .before .before .before .before .before .if1 .left, c .before .before .before .before .before .before .before .before .before .before .before .before .before .before .before .size .ensures, c .before .before .before .before .before .before .before .before .size3 .ensures)) (c .before .before .before .before .witnesses .result) (c .before .before .before .before .witnesses .ensures m k) (c .before .lowest2 .result) (c .before .lowest2 .ensures)
+    (omega (arith, c .before .before .before .before .before .before .before .before .before .before .before .if1 .left, c .before .before .before .before .before .before .before .before .before .before .before .before .before .before .before .before .before .before .before .before .before .size .ensures, c .before .before .before .before .before .before .before .before .before .before .before .before .size3 .ensures)) (c .before .before .before .before .before .before .before .before .witnesses .result) (c .before .before .before .before .before .before .before .before .witnesses .ensures m k) (c .before .before .lowest2 .result) (c .before .before .lowest2 .ensures)
     (partOf (c .extended2 .result)) (c .extended2 .ensures m k))
 
 returns-4 : tie.Need-returns-4 Inv-loop μ-loop
 returns-4 c =
-    let a = c .before .before .before .before .before .before .before in
+    let a = c .before .before .before .before .before .before .before .before .before in
     let l = c .before .loop in
     λ m k.
     record {
@@ -188,6 +213,7 @@ climb-spec =
     size-requires
     size-requires-2
     add-b
+    first-servings-requires
     whole-requires
     lowest-requires
     extended-requires
@@ -199,6 +225,7 @@ climb-spec =
     add-if3
     add-result
     returns-3
+    servings-requires
     lowest-requires-2
     extended-requires-2
     add-b-2

@@ -2,7 +2,7 @@
 -- left. Assumes nothing.
 use mathlib.Core.Path.{_≡_, _∙_, subst}
 use lib.Dec.{T}
-use lib.ListN.{length}
+use lib.ListN.{length, getD}
 use Rattle.graphs.proofs.LoopLaws.{left-falls}
 use Rattle.sets.specs.Set.{size}
 use Rattle.graphs.specs.Held.{view, Held, holding}
@@ -17,14 +17,14 @@ use Rattle.mycielski.proofs.extended.Statement.{statement}
 use Rattle.mycielski.proofs.extended.Tie as tie
 
 abbrev Inv-loop : tie.InvT-loop
-Inv-loop live rows w row old set₀ near₀ left₀ set near left =
+Inv-loop live rows w fit row old set₀ near₀ left₀ set near left =
     Within left left₀ × (length near ≡ 64)
     × ((m : Node) → (k : Held (holding live rows m)) → (i : Inside live (record { set = left₀; near = old }))
     → (t : T (ofW (m .n) (view (holding live rows m)) (partOf (record { set = left₀; near = old })) w))
     → Extending (holding live rows m) k (record { set = left₀; near = old }) i w t (record { set = set; near = near }) left)
 
 abbrev μ-loop : tie.MeasureT-loop
-μ-loop live rows w row old set₀ near₀ left₀ set near left = size 64 left
+μ-loop live rows w fit row old set₀ near₀ left₀ set near left = size 64 left
 
 mul-row : tie.Need-mul-row Inv-loop μ-loop
 mul-row c = search needs
@@ -44,14 +44,11 @@ loop-holds c =
 lowest-requires : tie.Need-lowest-requires Inv-loop μ-loop
 lowest-requires c κs = search needs
 
-mul-serving : tie.Need-mul-serving Inv-loop μ-loop
-mul-serving c = search needs
+mul-s : tie.Need-mul-s Inv-loop μ-loop
+mul-s c = search needs
 
-array-read-serving : tie.Need-array-read-serving Inv-loop μ-loop
-array-read-serving c = search needs
-
-serving-requires : tie.Need-serving-requires Inv-loop μ-loop
-serving-requires c κs = λ x t. c .before .before .before .before .before .before .pre .1 .0 .ends (c .lowest .result) x t
+element-copy-out-s : tie.Need-element-copy-out-s Inv-loop μ-loop
+element-copy-out-s c = search needs
 
 meet-requires : tie.Need-meet-requires Inv-loop μ-loop
 meet-requires c κs = search needs
@@ -61,8 +58,8 @@ lowest-requires-2 c κs =
     let a = c .before .before .before .before .before .before .before .before in
     let v = c .before .before .lowest in
     let q = a .pre .0 in
-    offered (holding (a .args .live) (a .args .rows .now) (q .0)) (q .1) (a .args .p) (a .pre .1 .0) (a .args .w) (a .pre .1 .1 .1 (q .0) (q .1)) (v .result) (c .before .serving .result) (c .meet .result)
-    (c .before .serving .ensures (q .0) (q .1)) (c .meet .ensures) (c .before .before .before .before .loop .inv .0 (v .result) (v .ensures .member))
+    offered (holding (a .args .live) (a .args .rows .now) (q .0)) (q .1) (a .args .p) (a .pre .1 .0) (a .args .w) (a .pre .1 .1 .1 .0 (q .0) (q .1)) (v .result) (getD (a .args .fit .now) (v .result) 0) (c .meet .result)
+    (a .pre .1 .1 .1 .1 (q .0) (q .1) (v .result) (c .before .before .before .before .loop .inv .0 (v .result) (v .ensures .member))) (c .meet .ensures) (c .before .before .before .before .loop .inv .0 (v .result) (v .ensures .member))
 
 with-requires-2 : tie.Need-with-requires-2 Inv-loop μ-loop
 with-requires-2 c κs = search needs
@@ -89,14 +86,13 @@ loop-again : tie.Need-loop-again Inv-loop μ-loop
 loop-again c =
     let a = c .before .before .before .before .before .before .before .before .before .before .before .before .before .before in
     let b = c .before .before .before .before .before .before .before .before .before .before .loop in
-    let v = c .before .before .before .before .before .before .before .before .lowest in
-    let s = c .before .before .before .before .before .before .before .serving in (
+    let v = c .before .before .before .before .before .before .before .before .lowest in (
       within-again (a .args .p .set) (b .left) (v .result) (c .rest .result) (b .inv .0) (v .ensures) (c .rest .ensures (v .result) (v .ensures)),
       c .before .tie .ensures .long ∙ b .inv .1,
       λ m k i t.
           extending-again (holding (a .args .live) (a .args .rows .now) m) k (a .args .p) i (a .args .w) t (record { set = b .set; near = b .near }) (b .left) (v .result)
-          (s .result) (c .before .before .before .before .before .before .meet .result) (c .before .before .before .before .before .lowest2 .result) (c .before .before .before .with3 .result) (c .before .before .before .before .with2 .result) _ (c .rest .result)
-          (b .inv .2 m k i t) (v .ensures) (s .ensures m k) (c .before .before .before .before .before .before .meet .ensures) (c .before .before .before .before .before .lowest2 .ensures) (c .before .before .before .with3 .ensures) (c .before .before .before .before .with2 .ensures) (c .before .tie .ensures) (c .rest .ensures (v .result) (v .ensures)),
+          (getD (a .args .fit .now) (v .result) 0) (c .before .before .before .before .before .before .meet .result) (c .before .before .before .before .before .lowest2 .result) (c .before .before .before .with3 .result) (c .before .before .before .before .with2 .result) _ (c .rest .result)
+          (b .inv .2 m k i t) (v .ensures) (a .pre .1 .1 .1 .1 m k (v .result) (b .inv .0 (v .result) (v .ensures .member))) (c .before .before .before .before .before .before .meet .ensures) (c .before .before .before .before .before .lowest2 .ensures) (c .before .before .before .with3 .ensures) (c .before .before .before .before .with2 .ensures) (c .before .tie .ensures) (c .rest .ensures (v .result) (v .ensures)),
     )
 
 returns : tie.Need-returns Inv-loop μ-loop
@@ -105,7 +101,7 @@ returns c =
     let b = c .before .loop in
     λ m k.
     let h = holding (a .args .live) (a .args .rows .now) m in
-    let t = a .pre .1 .1 .1 m k in
+    let t = a .pre .1 .1 .1 .0 m k in
     extending-end h k (a .args .p) (a .pre .1 .0) (a .args .w) t (record { set = b .set; near = b .near })
     (subst (λ l. Extending h k (a .args .p) (a .pre .1 .0) (a .args .w) t (record { set = b .set; near = b .near }) l) (c .loop-test .left) (b .inv .2 m k (a .pre .1 .0) t))
 
@@ -120,9 +116,8 @@ extended-spec =
     with-requires
     loop-holds
     lowest-requires
-    mul-serving
-    array-read-serving
-    serving-requires
+    mul-s
+    element-copy-out-s
     meet-requires
     lowest-requires-2
     with-requires-2
