@@ -10,8 +10,8 @@ use lib.Dec.{T}
 use Rattle.sets.specs.Lists.{In, NoDup, some?, over}
 use Rattle.sets.proofs.TestLaws.{T→true, T→false}
 use Rattle.sets.proofs.ListLaws.{In-append}
+use Rattle.sets.proofs.MemberLaws.{members-noDup}
 use Rattle.graphs.specs.Graph.{Graph, live, vertices}
-use Rattle.graphs.proofs.PairLaws.{members-noDup}
 use Rattle.graphs.proofs.LoopLaws.{or-false}
 use Rattle.cliques.specs.Clique.{isIn, admits, joined, again, once, cliques}
 use Rattle.cliques.specs.Growth.{scan}

@@ -13,9 +13,9 @@ use lib.ListN.{length}
 use borrow.Author.Tests.{lt-ltb, le-ltb}
 use Rattle.sets.specs.Lists.{In, NoDup, over}
 use Rattle.sets.proofs.ListLaws.{noDup-le}
+use Rattle.sets.proofs.MemberLaws.{members-noDup}
 use Rattle.graphs.specs.Graph.{Graph, live, vertices}
 use Rattle.graphs.specs.Good.{Live, Good}
-use Rattle.graphs.proofs.PairLaws.{members-noDup}
 use Rattle.graphs.proofs.GraphLaws.{vertices-live}
 use Rattle.cliques.specs.Clique.{isIn, joined, cliques, clique, IsClique}
 use Rattle.cliques.specs.Growth.{scan}

@@ -15,13 +15,12 @@ use Rattle.sets.specs.Lists.{In, members, over}
 use Rattle.sets.specs.Set.{has, size, IsJoin, IsMeet, IsLess, IsBelow, IsLowest}
 use Rattle.sets.proofs.TestLaws.{and-l, and-r, and-t, or-l, or-r, not-t, t-not, T→true}
 use Rattle.sets.proofs.ListLaws.{noDup-le}
-use Rattle.sets.proofs.MemberLaws.{members-count, In-members, members-In}
+use Rattle.sets.proofs.MemberLaws.{members-count, members-narrow, In-members, members-In}
 use Rattle.sets.proofs.SetLaws.{has-none}
 use Rattle.graphs.specs.Graph.{Graph, live, vertices}
 use Rattle.graphs.specs.Held.{view, Held}
 use Rattle.graphs.specs.declared.Node.{Node}
 use Rattle.graphs.proofs.GraphLaws.{live-of, of-live, vertices-live}
-use Rattle.graphs.proofs.LoopLaws.{members-narrow}
 use Rattle.cliques.specs.Clique.{isIn, admits, clique, IsClique}
 use Rattle.cliques.specs.Growth.{IsSetOf, elements, scan, Grown, Grows, Within, after, first}
 use Rattle.cliques.specs.declared.Growth.{Growth}

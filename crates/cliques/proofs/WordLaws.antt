@@ -11,12 +11,11 @@ use Rattle.sets.specs.Lists.{upto, members}
 use Rattle.sets.specs.Set.{has, size, IsWith, IsMeet, IsLowest}
 use Rattle.sets.proofs.TestLaws.{and-l, and-r, and-t, T→true, T-ext, eqb-of}
 use Rattle.sets.proofs.ListLaws.{count-lt, In-table}
-use Rattle.sets.proofs.MemberLaws.{members-count, members-none, In-members, members-In}
+use Rattle.sets.proofs.MemberLaws.{members-count, members-none, In-members, members-In, members-noDup}
 use Rattle.sets.proofs.SetLaws.{has-none}
 use Rattle.graphs.specs.Graph.{Graph, live}
 use Rattle.graphs.specs.Held.{view, Held}
 use Rattle.graphs.specs.declared.Node.{Node}
-use Rattle.graphs.proofs.PairLaws.{members-noDup}
 use Rattle.cliques.specs.Clique.{isIn, admits, IsClique}
 use Rattle.cliques.specs.Growth.{IsSetOf, elements, scan, Grown, Grows, Within}
 use Rattle.cliques.specs.declared.Growth.{Growth}

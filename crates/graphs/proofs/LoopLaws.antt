@@ -16,7 +16,6 @@ use Rattle.sets.proofs.TestLaws.{and-l, and-r, and-t, and-true, T-ext}
 use Rattle.sets.proofs.MemberLaws.{count-few, count-agree, count-out, members-none}
 use Rattle.sets.proofs.SetLaws.{has-none, size-without, members-cons}
 use Rattle.graphs.proofs.PairLaws.{of-ne, ne-of}
-pub use Rattle.sets.proofs.MemberLaws.{members-narrow, count-narrow}
 
 -- ---- one member fewer
 

@@ -13,7 +13,6 @@ use lib.ListN.{length, length-append}
 use Rattle.sets.specs.Lists.{bit, In, count, table, cross}
 use Rattle.sets.proofs.TestLaws.{and-l, and-r, and-t, or-l, or-r, eqb-of}
 use Rattle.sets.proofs.ListLaws.{In-table, length-table, In-append-l, In-append-r}
-pub use Rattle.sets.proofs.MemberLaws.{members-noDup}
 
 -- ---- tests
 

@@ -12,14 +12,13 @@ use borrow.Author.Tests.{le-leb, lt-leb}
 use Rattle.sets.specs.Lists.{count, all, any, upto, lowest}
 use Rattle.sets.specs.Set.{has, size, IsLowest}
 use Rattle.sets.proofs.TestLaws.{and-l}
-use Rattle.sets.proofs.MemberLaws.{lowest-is, lowest-none, Lowest, found, nowhere, lowest-cases}
+use Rattle.sets.proofs.MemberLaws.{count-narrow, lowest-is, lowest-none, Lowest, found, nowhere, lowest-cases}
 use Rattle.sets.proofs.SetLaws.{has-none, no-members}
 use Rattle.graphs.specs.Graph.{Graph, live, vertices}
 use Rattle.graphs.specs.Held.{view, Held}
 use Rattle.graphs.specs.declared.Node.{Node}
 use Rattle.graphs.proofs.GraphLaws.{live-of, of-live}
 use Rattle.graphs.proofs.HeldLaws.{held-vertices}
-use Rattle.graphs.proofs.LoopLaws.{count-narrow}
 use Rattle.cliques.specs.Clique.{isIn, clique, IsClique}
 use Rattle.cliques.specs.Growth.{IsSetOf, Within, Reaches}
 use Rattle.cliques.proofs.ListLaws.{in-of}

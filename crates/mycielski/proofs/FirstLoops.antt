@@ -14,12 +14,12 @@ use Rattle.sets.specs.Lists.{In, NoDup, bit, count, all, any, upto, members}
 use Rattle.sets.specs.Set.{has, IsWithout, IsMeet, IsJoin, IsLess, IsLowest}
 use Rattle.sets.proofs.TestLaws.{and-l, and-r, and-t, not-t, t-not, T?, T-ext, all-get, all-make, any-get}
 use Rattle.sets.proofs.ListLaws.{noDup-le}
-use Rattle.sets.proofs.MemberLaws.{members-count, members-none, In-members, members-In}
+use Rattle.sets.proofs.MemberLaws.{members-count, members-none, In-members, members-In, members-noDup}
 use Rattle.sets.proofs.SetLaws.{has-none}
 use Rattle.graphs.specs.Graph.{Graph, live}
 use Rattle.graphs.specs.Held.{view, Held}
 use Rattle.graphs.specs.declared.Node.{Node}
-use Rattle.graphs.proofs.PairLaws.{members-noDup, of-ne, ne-of}
+use Rattle.graphs.proofs.PairLaws.{of-ne, ne-of}
 use Rattle.graphs.proofs.LoopLaws.{count-next, leb-next}
 use Rattle.cliques.specs.Growth.{Within}
 use Rattle.cliques.proofs.WordLaws.{near-row}
