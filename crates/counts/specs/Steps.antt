@@ -7,6 +7,7 @@
 --   Absorbed c p q r s d : d has at each number what c has, and how many of four rows have it
 --   Leads f apart gap m : m has who is greatest by f in apart; all others are behind by the gap at the least
 --   IsNarrowed m slice weight r : with the weight for those in a slice, r has who is greatest, where m had
+--   IsBorrowed slice digit b r : at each number below 64, r has whether digit and what b has, taken from the slice, borrow from the next
 --
 -- Assumes nothing.
 use mathlib.Core.Path.{_≡_}
@@ -50,3 +51,7 @@ pub record Leads (f : ℕ → ℕ) (apart gap : ℕ) (m : Most) : Type 0 where
 pub record IsNarrowed (m : Most) (slice weight : ℕ) (r : Most) : Type 0 where
   pub few : r .count ≤ m .count + weight
   pub leads : (f : ℕ → ℕ) (apart : ℕ) → Leads f apart (2 * weight) m → Leads (λ v. f v + weight * bit (has slice v)) apart weight r
+
+abbrev pub IsBorrowed : ℕ → ℕ → ℕ → ℕ → Type 0
+IsBorrowed slice digit b r =
+    (v : ℕ) → v < 64 → (digit + bit (has b v) ≤ bit (has slice v) + 2 * bit (has r v)) × (bit (has slice v) + 2 * bit (has r v) ≤ digit + bit (has b v) + 1)

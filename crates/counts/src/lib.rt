@@ -1,5 +1,6 @@
 // In how many rows of a set's members each number below 64 is: all counts at once, as slices. Slice k has the numbers whose count has digit k,
 // so that one operation on words adds to 64 counts.
+use sets::below;
 use sets::join;
 use sets::less;
 use sets::lowest;
@@ -7,8 +8,8 @@ use sets::meet;
 use sets::rest;
 ghost use mathlib.Core.Path.{_≡_};
 ghost use Prim.Native.Nat.{_+_, _<_};
-ghost use Rattle.counts.specs.Counts.{Counted, IsMost};
-ghost use Rattle.counts.specs.Steps.{IsHalf, IsSum, IsPulled, Fits, Absorbed, IsNarrowed};
+ghost use Rattle.counts.specs.Counts.{Counted, IsMost, IsAtLeast};
+ghost use Rattle.counts.specs.Steps.{IsHalf, IsSum, IsPulled, Fits, Absorbed, IsNarrowed, IsBorrowed};
 
 // The count at v has digit k where v is in slice sk. Seven are enough: no count is above 64.
 pub struct Counts {
@@ -158,4 +159,37 @@ pub fn greatest(c: Counts, apart: u64) -> Most
     let m = narrow(m, c.s2, 4);
     let m = narrow(m, c.s1, 2);
     narrow(m, c.s0, 1)
+}
+
+// One digit of what is taken from every count: those that borrow from the next slice.
+fn borrowed(slice: u64, digit: usize, b: u64) -> u64
+    requires { ⌜ digit < 2 ⌝ }
+    ensures { λ r. ⌜ IsBorrowed slice digit b r ⌝ }
+{
+    if digit == 0 {
+        return less(b, slice);
+    }
+    join(b, less(below(64), slice))
+}
+
+// Of a set who has that count or more: who has not would have to borrow beyond the last slice.
+pub fn at_least(c: Counts, need: usize, among: u64) -> u64
+    ensures { λ r. ⌜ IsAtLeast c need among r ⌝ }
+{
+    if need > 127 {
+        return 0;
+    }
+    let b = borrowed(c.s0, need % 2, 0);
+    let n1 = need / 2;
+    let b = borrowed(c.s1, n1 % 2, b);
+    let n2 = n1 / 2;
+    let b = borrowed(c.s2, n2 % 2, b);
+    let n3 = n2 / 2;
+    let b = borrowed(c.s3, n3 % 2, b);
+    let n4 = n3 / 2;
+    let b = borrowed(c.s4, n4 % 2, b);
+    let n5 = n4 / 2;
+    let b = borrowed(c.s5, n5 % 2, b);
+    let b = borrowed(c.s6, n5 / 2, b);
+    less(among, b)
 }
