@@ -5,13 +5,13 @@
 --   value c v           : the count that c holds at v
 --   Counted rows near c : c holds at each v how many members of near have v in their row
 --   IsMost c apart m    : m has the greatest count that c holds at a member of apart, and the members that have it
---   IsAtLeast c need among r : r has those below 64 of a set at which c holds that count or more
+--   IsAtLeast c need among r : r has those of a set at which c holds that count or more
 --
 -- Assumes nothing.
 use mathlib.Core.Path.{_≡_}
 use mathlib.Core.Bool.{_&&_}
 use mathlib.Core.List.{List, [], _∷_}
-use Prim.Native.Nat.{ℕ, zero, _+_, _*_, _≤_, _<_}
+use Prim.Native.Nat.{ℕ, zero, _+_, _*_, _≤_}
 use lib.Dec.{T, eqb, leb}
 use lib.ListN.{getD}
 use Rattle.sets.specs.Lists.{bit, count, upto}
@@ -37,6 +37,5 @@ pub record IsMost (c : Counts) (apart : ℕ) (m : Most) : Type 0 where
   pub having : (v : ℕ) → has (m .having) v ≡ (has apart v && eqb (value c v) (m .count))
   pub some : ¬ (apart ≡ 0) → ¬ (m .having ≡ 0)
 
-pub record IsAtLeast (c : Counts) (need among r : ℕ) : Type 0 where
-  pub within : (v : ℕ) → T (has r v) → T (has among v)
-  pub is : (v : ℕ) → v < 64 → has r v ≡ (has among v && leb need (value c v))
+abbrev pub IsAtLeast : Counts → ℕ → ℕ → ℕ → Type 0
+IsAtLeast c need among r = (v : ℕ) → has r v ≡ (has among v && leb need (value c v))

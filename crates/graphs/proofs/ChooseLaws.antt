@@ -1,6 +1,6 @@
 -- Laws of the choice of the pair: what the code holds of each row, and that all rows give the pair of the graph. Assumes nothing.
 use mathlib.Core.Path.{_≡_, refl, sym, ap, ap₂, _∙_, subst, fun-ext}
-use mathlib.Core.Logic.{inl, inr}
+use mathlib.Core.Logic.{_≢_, inl, inr}
 use mathlib.Core.Bool.{Bool, true, false, not, _&&_}
 use mathlib.Core.List.{List, [], _∷_}
 use mathlib.Core.Option.{Option, none, some}
@@ -8,25 +8,26 @@ use Prim.Native.Nat.{ℕ, zero, suc, _+_, _≤_, _<_}
 use native.Mathlib.Numerals.{add-one}
 use native.Mathlib.Decide.{decLt}
 use native.Mathlib.Omega.{arith}
-use lib.Dec.{T, eqb, ltb, eqb→eq}
+use lib.Dec.{T, eqb, leb, ltb, eqb→eq, ltb→lt, lt→ltb}
 use lib.ListN.{getD}
+use borrow.Author.Tests.{le-leb}
 use Rattle.sets.specs.Lists.{In, count, upto, members, select, cross, over}
 use Rattle.sets.specs.Set.{has, size, IsWithout, IsMeet, IsLess, IsLowest}
-use Rattle.sets.proofs.TestLaws.{and-l, and-r, and-t, eqb-of, T→true, T-ext}
+use Rattle.sets.proofs.TestLaws.{and-l, and-r, and-t, eqb-of, T?, T→true, T-ext}
 use Rattle.sets.proofs.ListLaws.{count-le}
 use Rattle.sets.proofs.MemberLaws.{count-few, count-agree, count-narrow, members-agree, members-none, members-narrow, In-members}
-use Rattle.counts.specs.Counts.{held, value, Counted, IsMost}
+use Rattle.counts.specs.Counts.{held, value, Counted, IsMost, IsAtLeast}
 use Rattle.counts.specs.declared.Counts.{Counts}
 use Rattle.counts.specs.declared.Most.{Most}
 use Rattle.graphs.specs.Graph.{live, gap, common, pair}
 use Rattle.graphs.specs.Held.{Held, view}
-use Rattle.graphs.specs.Acts.{lead, shared, Mutual}
+use Rattle.graphs.specs.Acts.{lead, shared, Mutual, Hopeful}
 use Rattle.graphs.specs.declared.Node.{Node}
 use Rattle.graphs.specs.declared.Lead.{Lead}
 use Rattle.graphs.proofs.GraphLaws.{gap-chosen, of-live}
-use Rattle.graphs.proofs.LoopLaws.{Rest, rest-all, rest-next, rest-after, over-next, over-none}
+use Rattle.graphs.proofs.LoopLaws.{without-kept, kept-without, over-next, over-none}
 use Rattle.graphs.proofs.HeldLaws.{held-beyond, held-members}
-use Rattle.graphs.proofs.LeadLaws.{pairs, after, over-greatest, row-lead, cross-lead, Leads, leads-over, lead-more, lead-less, lead-stays, lead-first}
+use Rattle.graphs.proofs.LeadLaws.{over-narrow, pairs, after, over-greatest, row-lead, cross-lead, Leads, leads-over, reach, leads-reach, row-grows, row-stays, lead-more, lead-less, lead-grows, lead-stays, lead-first}
 
 -- ---- one pair
 
@@ -103,6 +104,18 @@ module _ (rows : List ℕ) (near apart u : ℕ) (best : Lead) (c : Counts) (m : 
                 let e : value c j ≡ m .count = omega (arith, top .greatest j t, value-shared j t, most-shared) in
                 absurd (low .least j a (subst T (sym (top .having j)) (and-t (has apart j) (eqb (value c j) (m .count)) t (eqb-of (value c j) (m .count) e))))
 
+-- who has as many may lead
+pub least-hopeful : (c : Counts) (need left r : ℕ) → IsAtLeast c need left r → Hopeful c need left r
+least-hopeful c need left r is = record {
+  within = λ v t. and-l (has left v) (leb need (value c v)) (subst T (is v) t);
+  out = λ v t q. go v t q (decLt (value c v) need);
+}
+  where
+    go : (v : ℕ) → T (has left v) → ¬ T (has r v) → Dec (value c v < need) → value c v < need
+    go v t q (yes b) = b
+    go v t q (no b) =
+        absurd (q (subst T (sym (is v)) (and-t (has left v) (leb need (value c v)) t (subst T (sym (le-leb need (value c v) (omega arith))) tt))))
+
 -- ---- one row
 
 module _ (rows : List ℕ) (live : ℕ) where
@@ -116,14 +129,64 @@ module _ (rows : List ℕ) (live : ℕ) where
   abbrev pub sharing : ℕ × ℕ → ℕ
   sharing p = count (λ w. edge (p .0) w && edge (p .1) w) (upto 64)
 
-  module _ (left u next near apart : ℕ) (rest : Rest live left) (low : IsLowest 64 left u) (out : IsWithout left u next)
-      (is-near : IsMeet (getD rows u zero) live near) (is-apart : IsLess next near apart) where
-    row-members : members (has apart) 64 ≡ members (λ y. open? (u, y)) 64
-    row-members =
-        members-agree 64 (has apart) (λ y. open? (u, y))
-        (λ y b. is-apart y ∙ ap₂ (λ (s t : Bool). s && not t) (rest-after live left u next rest low out y) (is-near y))
+  -- how many neighbours one has bounds what it shares
+  share-few : (x y : ℕ) → sharing (x, y) ≤ shared rows live x
+  share-few x y =
+      count-le (λ w. edge x w && edge y w) (λ w. has live w && has (getD rows x zero) w) (upto 64)
+      (λ w t. and-r (has live x) (has live w && has (getD rows x zero) w) (and-l (edge x w) (edge y w) t))
 
-    row-shared : (v : ℕ) → In v (members (has apart) 64) → shared rows near v ≡ sharing (u, v)
+  -- what is left of the live vertices: of those after one that is left only such are out as have too few neighbours to lead
+  pub record Hoping (need left : ℕ) : Type 0 where
+    pub within : (x : ℕ) → T (has left x) → T (has live x)
+    pub behind : (x y : ℕ) → T (has left x) → T (has live y) → x < y → ¬ T (has left y) → shared rows live y < need
+
+  module _ (best : Lead) (left u next near apart : ℕ) (rest : Hoping (best .size) left) (low : IsLowest 64 left u) (out : IsWithout left u next)
+      (is-near : IsMeet (getD rows u zero) live near) (is-apart : IsLess next near apart) where
+    next-after : (v : ℕ) → T (has next v) → T (has left v) × (u < v)
+    next-after v t = let k = without-kept left u next v out t in (k .0, above (k .0) (k .1))
+      where
+        above : T (has left v) → v ≢ u → u < v
+        above t q = go (decLt v u)
+          where
+            go : Dec (v < u) → u < v
+            go (yes b) = absurd (low .least v b t)
+            go (no b) = omega arith
+
+    apart-open : (v : ℕ) → T (has apart v) → T (open? (u, v))
+    apart-open v t =
+        let s = subst T (is-apart v) t in
+        let k = next-after v (and-l (has next v) (not (has near v)) s) in
+        and-t (has live v && ltb u v) (not (has (getD rows u zero) v && has live v)) (and-t (has live v) (ltb u v) (rest .within v (k .0)) (lt→ltb u v (k .1)))
+        (subst (λ (b : Bool). T (not b)) (is-near v) (and-r (has next v) (not (has near v)) s))
+
+    -- who is passed over has too few neighbours
+    passed-few : (v : ℕ) → T (open? (u, v)) → ¬ T (has apart v) → shared rows near v < best .size
+    passed-few v t q = omega (arith, near-few, rest .behind u v (low .member) (and-l (has live v) (ltb u v) s) b gone)
+      where
+        s : T (has live v && ltb u v)
+        s = and-l (has live v && ltb u v) (not (has (getD rows u zero) v && has live v)) t
+
+        b : u < v
+        b = ltb→lt u v (and-r (has live v) (ltb u v) s)
+
+        gone : ¬ T (has left v)
+        gone l =
+            q (subst T (sym (is-apart v)) (and-t (has next v) (not (has near v)) (kept-without left u next v out l (λ e. let z : ⊥ = omega (arith, b) in z))
+            (subst (λ (c : Bool). T (not c)) (sym (is-near v)) (and-r (has live v && ltb u v) (not (has (getD rows u zero) v && has live v)) t))))
+
+        near-few : shared rows near v ≤ shared rows live v
+        near-few =
+            count-le (λ w. has near w && has (getD rows v zero) w) (λ w. has live w && has (getD rows v zero) w) (upto 64)
+            (λ w m. and-t (has live w) (has (getD rows v zero) w)
+            (and-r (has (getD rows u zero) w) (has live w) (subst T (is-near w) (and-l (has near w) (has (getD rows v zero) w) m))) (and-r (has near w) (has (getD rows v zero) w) m))
+
+    -- so all that are open to u give what those give that are left
+    row-same : over (lead (shared rows near) u) best (members (has apart) 64) ≡ over (lead (shared rows near) u) best (members (λ y. open? (u, y)) 64)
+    row-same =
+        over-narrow (lead (shared rows near) u) (λ l. best .size ≤ l .size) (λ y. open? (u, y)) (has apart) apart-open (λ l v h. lead-grows (shared rows near) u l v (best .size) h)
+        (λ l v h t q. lead-less (shared rows near) u l v (omega (arith, passed-few v t q))) 64 best (omega arith) .0
+
+    row-shared : (v : ℕ) → In v (members (λ y. open? (u, y)) 64) → shared rows near v ≡ sharing (u, v)
     row-shared v i = count-agree 64 (λ w. has near w && has (getD rows v zero) w) (λ w. edge u w && edge v w) (λ w b. same w)
       where
         lu : has live u ≡ true
@@ -131,9 +194,8 @@ module _ (rows : List ℕ) (live : ℕ) where
 
         lv : has live v ≡ true
         lv =
-            let t = subst T (is-apart v) (In-members (has apart) 64 v i .1) in
-            let s = subst T (rest-after live left u next rest low out v) (and-l (has next v) (not (has near v)) t) in
-            T→true (has live v) (and-l (has live v) (ltb u v) s)
+            let t = In-members (λ y. open? (u, y)) 64 v i .1 in
+            T→true (has live v) (and-l (has live v) (ltb u v) (and-l (has live v && ltb u v) (not (has (getD rows u zero) v && has live v)) t))
 
         alike : (a b l : Bool) → ((a && l) && b) ≡ ((true && (l && a)) && (true && (l && b)))
         alike true true true = refl
@@ -150,48 +212,81 @@ module _ (rows : List ℕ) (live : ℕ) where
             ap (λ (t : Bool). t && has (getD rows v zero) w) (is-near w) ∙ alike (has (getD rows u zero) w) (has (getD rows v zero) w) (has live w)
             ∙ sym (ap₂ (λ (s t : Bool). (s && (has live w && has (getD rows u zero) w)) && (t && (has live w && has (getD rows v zero) w))) lu lv)
 
-    row-leads : (l : Lead) (o : Option (ℕ × ℕ)) → Leads sharing l o
-        → Leads sharing (over (lead (shared rows near) u) l (members (has apart) 64)) (row-lead sharing open? 64 o u)
-    row-leads l o h =
-        subst (λ (vs : List ℕ). Leads sharing (over (lead (shared rows near) u) l (members (has apart) 64)) (over (after sharing) o (pairs u vs))) row-members
-        (leads-over sharing (shared rows near) u (members (has apart) 64) row-shared l o h)
+    row-leads : (o : Option (ℕ × ℕ)) → Leads sharing best o → Leads sharing (over (lead (shared rows near) u) best (members (has apart) 64)) (row-lead sharing open? 64 o u)
+    row-leads o h =
+        subst (λ (l : Lead). Leads sharing l (row-lead sharing open? 64 o u)) (sym row-same)
+        (leads-over sharing (shared rows near) u (members (λ y. open? (u, y)) 64) row-shared best o h)
 
   -- ---- the loop over the rows
 
   -- what leads, and the rows that are left, give what all rows give
   pub record Scanned (best : Lead) (left : ℕ) : Type 0 where
-    pub rest : Rest live left
+    pub rest : Hoping (best .size) left
     pub top : Option (ℕ × ℕ)
     pub leads : Leads sharing best top
     pub same : over (row-lead sharing open? 64) top (members (has left) 64) ≡ over (row-lead sharing open? 64) none (members (has live) 64)
 
   pub scanned-none : Scanned (record { size = 0; u = 0; v = 0 }) live
-  scanned-none = record { rest = rest-all live; top = none; leads = refl; same = refl }
+  scanned-none = record { rest = record { within = λ x t. t; behind = λ x y t u b q. absurd (q u) }; top = none; leads = refl; same = refl }
 
-  pub scanned-next : (best : Lead) (left u next near apart : ℕ) → Scanned best left → IsLowest 64 left u → IsWithout left u next
-      → IsMeet (getD rows u zero) live near → IsLess next near apart → (new : Lead) → new ≡ over (lead (shared rows near) u) best (members (has apart) 64) → Scanned new next
-  scanned-next best left u next near apart s low out m d new e = record {
-    rest = rest-next live left u next (s .rest) low out;
-    top = row-lead sharing open? 64 (s .top) u;
-    leads = subst (λ (l : Lead). Leads sharing l (row-lead sharing open? 64 (s .top) u)) (sym e) (row-leads left u next near apart (s .rest) low out m d best (s .top) (s .leads));
-    same = over-next (row-lead sharing open? 64) (s .top) (row-lead sharing open? 64 (s .top) u) left u next low out refl ∙ s .same;
-  }
+  module _ (best : Lead) (left u next near apart : ℕ) (s : Scanned best left) (low : IsLowest 64 left u) (out : IsWithout left u next)
+      (m : IsMeet (getD rows u zero) live near) (d : IsLess next near apart) (new : Lead) (e : new ≡ over (lead (shared rows near) u) best (members (has apart) 64))
+      (kept : ℕ) (into : (v : ℕ) → T (has kept v) → T (has next v)) (few : (v : ℕ) → T (has next v) → ¬ T (has kept v) → shared rows live v < new .size) where
+    abbrev top′ : Option (ℕ × ℕ)
+    top′ = row-lead sharing open? 64 (s .top) u
+
+    leads′ : Leads sharing new top′
+    leads′ = subst (λ (l : Lead). Leads sharing l top′) (sym e) (row-leads best left u next near apart (s .rest) low out m d (s .top) (s .leads))
+
+    grown : best .size ≤ new .size
+    grown =
+        omega (arith, leads-reach sharing best (s .top) (s .leads), leads-reach sharing new top′ leads′, row-grows sharing u (members (λ y. open? (u, y)) 64) (s .top))
+
+    behind′ : (x y : ℕ) → T (has kept x) → T (has live y) → x < y → ¬ T (has kept y) → shared rows live y < new .size
+    behind′ x y t l b q = go (T? (has next y))
+      where
+        kx : T (has left x) × (x ≢ u)
+        kx = without-kept left u next x out (into x t)
+
+        go : Dec (T (has next y)) → shared rows live y < new .size
+        go (yes n) = few y n q
+        go (no n) =
+            omega (arith, grown, s .rest .behind x y (kx .0) l b (λ p. n (kept-without left u next y out p (λ z. low .least x (omega arith) (kx .0)))))
+
+    pub scanned-next : Scanned new kept
+    scanned-next = record {
+      rest = record { within = λ x t. s .rest .within x (without-kept left u next x out (into x t) .0); behind = behind′ };
+      top = top′;
+      leads = leads′;
+      same = over-narrow (row-lead sharing open? 64) (λ o. new .size ≤ reach sharing o) (has next) (has kept) into
+          (λ o x h. omega (arith, row-grows sharing x (members (λ y. open? (x, y)) 64) o))
+          (λ o x h t q. row-stays sharing x (members (λ y. open? (x, y)) 64) o (λ y i. omega (arith, few x t q, share-few x y))) 64 top′ (omega (arith, leads-reach sharing new top′ leads′)) .0
+          ∙ over-next (row-lead sharing open? 64) (s .top) top′ left u next low out refl ∙ s .same;
+    }
 
 -- neighbours go both ways
-pub row-mutual : (h : Node) → Held h → (live u left near apart : ℕ) → live ≡ h .live → Rest live left → IsMeet (getD (h .rows) u zero) live near → IsLess left near apart
-    → Mutual (h .rows) near apart
-row-mutual h k live u left near apart e r wn wa w v tw tv = alike (T-ext (view h .adj w v) (view h .adj v w) (k .good .symm w v) (k .good .symm v w))
+pub live-mutual : (h : Node) → Held h → Mutual (h .rows) (h .live) (h .live)
+live-mutual h k w v tw tv = alike (T-ext (view h .adj w v) (view h .adj v w) (k .good .symm w v) (k .good .symm v w))
   where
     lw : has (h .live) w ≡ true
-    lw = T→true (has (h .live) w) (subst (λ (s : ℕ). T (has s w)) e (and-r (has (getD (h .rows) u zero) w) (has live w) (subst T (wn w) tw)))
+    lw = T→true (has (h .live) w) tw
 
     lv : has (h .live) v ≡ true
-    lv = T→true (has (h .live) v) (subst (λ (s : ℕ). T (has s v)) e (r .within v (and-l (has left v) (not (has near v)) (subst T (wa v) tv))))
+    lv = T→true (has (h .live) v) tv
 
     alike : view h .adj w v ≡ view h .adj v w → has (getD (h .rows) w zero) v ≡ has (getD (h .rows) v zero) w
     alike q =
         sym (ap₂ (λ (a b : Bool). a && (b && has (getD (h .rows) w zero) v)) lw lv) ∙ q
         ∙ ap₂ (λ (a b : Bool). a && (b && has (getD (h .rows) v zero) w)) lv lw
+
+pub row-mutual : (h : Node) → Held h → (u left near apart : ℕ) → ((x : ℕ) → T (has left x) → T (has (h .live) x)) → IsMeet (getD (h .rows) u zero) (h .live) near
+    → IsLess left near apart → Mutual (h .rows) near apart
+row-mutual h k u left near apart within wn wa w v tw tv =
+    live-mutual h k w v (and-r (has (getD (h .rows) u zero) w) (has (h .live) w) (subst T (wn w) tw)) (within v (and-l (has left v) (not (has near v)) (subst T (wa v) tv)))
+
+-- the count that is held of a live vertex is that of its neighbours
+pub degree-is : (h : Node) → Held h → (c : Counts) → Counted (h .rows) (h .live) c → (v : ℕ) → T (has (h .live) v) → value c v ≡ shared (h .rows) (h .live) v
+degree-is h k c is v t = is v ∙ held-shared (h .rows) (h .live) (h .live) v (live-mutual h k) t
 
 -- ---- all rows give the pair of the graph
 

@@ -21,6 +21,24 @@ pub over-append : {A B : Type 0} (f : B → A → B) (s : B) (k l : List A) → 
 over-append f s [] l = refl
 over-append f s (x ∷ k) l = over-append f (f s x) k l
 
+-- who changes nothing may be left out
+pub over-narrow : {B : Type 0} (f : B → ℕ → B) (S : B → Type 0) (p q : ℕ → Bool) → ((v : ℕ) → T (q v) → T (p v)) → ((s : B) (v : ℕ) → S s → S (f s v))
+    → ((s : B) (v : ℕ) → S s → T (p v) → ¬ T (q v) → f s v ≡ s) → (n : ℕ) (s : B) → S s
+    → (over f s (members q n) ≡ over f s (members p n)) × S (over f s (members p n))
+over-narrow f S p q into stays idle zero s h = (refl, h)
+over-narrow f S p q into stays idle (suc n) s h =
+    let r = over-narrow f S p q into stays idle n s h in
+    let e = go (p n) (q n) (into n) (λ t. idle t n) (over f s (members p n)) (r .1) in (
+      over-append f s (members q n) (keep (q n) n) ∙ ap (λ t. over f t (keep (q n) n)) (r .0) ∙ e .0 ∙ sym (over-append f s (members p n) (keep (p n) n)),
+      subst S (sym (over-append f s (members p n) (keep (p n) n))) (e .1),
+    )
+  where
+    go : (a b : Bool) → (T b → T a) → ((t : _) → S t → T a → ¬ T b → f t n ≡ t) → (t : _) → S t → (over f t (keep b n) ≡ over f t (keep a n)) × S (over f t (keep a n))
+    go true true g i t h = (refl, stays t n h)
+    go true false g i t h = (sym (i t h tt (λ z. z)), stays t n h)
+    go false true g i t h = absurd (g tt)
+    go false false g i t h = (refl, h)
+
 module _ {A : Type 0} (f : A → ℕ) where
   -- the better of two, the first where they are alike
   abbrev pub both : Option A → Option A → Option A
@@ -131,6 +149,37 @@ pub leads-over : (f : ℕ × ℕ → ℕ) (s : ℕ → ℕ) (u : ℕ) (vs : List
 leads-over f s u [] e l o h = h
 leads-over f s u (v ∷ vs) e l o h = leads-over f s u vs (λ w i. e w (inr i)) (lead s u l v) (after f o (u, v)) (lead-after f s u v l o (e v (inl refl)) h)
 
+-- one more than what the pair that leads has; 0 where there is none
+abbrev pub reach : (ℕ × ℕ → ℕ) → Option (ℕ × ℕ) → ℕ
+reach f none = zero
+reach f (some p) = suc (f p)
+
+pub leads-reach : (f : ℕ × ℕ → ℕ) (l : Lead) (o : Option (ℕ × ℕ)) → Leads f l o → l .size ≡ reach f o
+leads-reach f l none h = h
+leads-reach f l (some p) h = h .0
+
+module _ (f : ℕ × ℕ → ℕ) (x : ℕ) where
+  after-grows : (o : Option (ℕ × ℕ)) (p : ℕ × ℕ) → reach f o ≤ reach f (after f o p)
+  after-grows none p = omega arith
+  after-grows (some q) p = go (leb (f p) (f q)) refl
+    where
+      go : (b : Bool) → leb (f p) (f q) ≡ b → suc (f q) ≤ reach f (cond b (some q) (some p))
+      go true e = omega arith
+      go false e = omega (arith, leb-false (f p) (f q) e)
+
+  pub row-grows : (vs : List ℕ) (o : Option (ℕ × ℕ)) → reach f o ≤ reach f (over (after f) o (pairs x vs))
+  row-grows [] o = omega arith
+  row-grows (y ∷ vs) o = let a = after-grows o (x, y) in let b = row-grows vs (after f o (x, y)) in omega arith
+
+  -- a row none of whose pairs has more than what leads
+  pub row-stays : (vs : List ℕ) (o : Option (ℕ × ℕ)) → ((y : ℕ) → In y vs → f (x, y) < reach f o) → over (after f) o (pairs x vs) ≡ o
+  row-stays [] o h = refl
+  row-stays (y ∷ vs) o h = ap (λ k. over (after f) k (pairs x vs)) (stay o (h y (inl refl))) ∙ row-stays vs o (λ z i. h z (inr i))
+    where
+      stay : (o : Option (ℕ × ℕ)) → f (x, y) < reach f o → after f o (x, y) ≡ o
+      stay none c = absurd (not-suc-le-zero c)
+      stay (some q) c = ap (λ (t : Bool). cond t (some q) (some (x, y))) (le-leb (f (x, y)) (f q) (omega arith))
+
 -- ---- whom the code may pass over, and who leads in the end
 
 module _ (f : ℕ → ℕ) (u : ℕ) where
@@ -140,6 +189,13 @@ module _ (f : ℕ → ℕ) (u : ℕ) where
 
   pub lead-less : (l : Lead) (v : ℕ) → f v < l .size → lead f u l v ≡ l
   lead-less l v b = ap (λ (t : Bool). cond t (record { size = suc (f v); u = u; v = v }) l) (le-ltb (l .size) (suc (f v)) b)
+
+  pub lead-grows : (l : Lead) (v k : ℕ) → k ≤ l .size → k ≤ lead f u l v .size
+  lead-grows l v k b = at (decLt (f v) (l .size))
+    where
+      at : Dec (f v < l .size) → k ≤ lead f u l v .size
+      at (yes c) = rw (lead-less l v c) b
+      at (no c) = rw (lead-more l v (omega arith)) (omega arith)
 
   -- none of vs has more than what leads already
   pub lead-stays : (vs : List ℕ) (l : Lead) → ((v : ℕ) → In v vs → f v < l .size) → over (lead f u) l vs ≡ l

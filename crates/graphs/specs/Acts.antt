@@ -10,16 +10,19 @@
 --   shared rows near v   : how many members of near are in the row of v
 --   lead f u l v         : the pair u, v, where f v is more than what leads so far, else what leads
 --   Mutual rows near apart : of a member of near and one of apart each is in the other's row, or neither
+--   Hopeful c need left r : r is a part of left, and who is left out has a count in c below what is needed
 --
 -- Assumes nothing.
 use mathlib.Core.Path.{_≡_}
 use mathlib.Core.Bool.{_&&_, _||_, cond}
 use mathlib.Core.List.{List}
-use Prim.Native.Nat.{ℕ, zero, suc}
+use Prim.Native.Nat.{ℕ, zero, suc, _<_}
 use lib.Dec.{T, eqb, ltb}
 use lib.ListN.{length, getD}
 use Rattle.sets.specs.Lists.{count, upto}
 use Rattle.sets.specs.Set.{has, IsWithout}
+use Rattle.counts.specs.Counts.{value}
+use Rattle.counts.specs.declared.Counts.{Counts}
 use Rattle.clashes.specs.Matrix.{matrix}
 use Rattle.graphs.specs.Graph.{Graph, to, graph, merge, separate}
 use Rattle.graphs.specs.Good.{Chosen}
@@ -66,3 +69,7 @@ lead f u l v = cond (ltb (l .size) (suc (f v))) (record { size = suc (f v); u = 
 
 abbrev pub Mutual : List ℕ → ℕ → ℕ → Type 0
 Mutual rows near apart = (w v : ℕ) → T (has near w) → T (has apart v) → has (getD rows w zero) v ≡ has (getD rows v zero) w
+
+pub record Hopeful (c : Counts) (need left r : ℕ) : Type 0 where
+  pub within : (v : ℕ) → T (has r v) → T (has left v)
+  pub out : (v : ℕ) → T (has left v) → ¬ T (has r v) → value c v < need

@@ -1,5 +1,7 @@
 // A node of the walk, held in words. Its rows are lent where they are only read, and changed in place; each contract says, by the view, which graph
 // is held.
+use counts::Counts;
+use counts::at_least;
 use counts::counted;
 use counts::greatest;
 use sets::below;
@@ -19,7 +21,7 @@ ghost use Rattle.sets.specs.Set.{has as member};
 ghost use Rattle.clashes.specs.Matrix.{Sound};
 ghost use Rattle.graphs.specs.Graph.{to, merge, separate, pair, complete, grouping};
 ghost use Rattle.graphs.specs.Held.{Held, view, choiceOf, Holds, Each};
-ghost use Rattle.graphs.specs.Acts.{IsRoot, Linked, Renamed, MergedRows, SeparatedRows, lead, shared, Mutual};
+ghost use Rattle.graphs.specs.Acts.{IsRoot, Linked, Renamed, MergedRows, SeparatedRows, lead, shared, Mutual, Hopeful};
 
 // How many entries there are, the live vertices, a row of neighbours for each, and which live vertex stands for each entry.
 pub struct Node {
@@ -196,11 +198,23 @@ fn led(rows: &[u64; 64], u: usize, near: u64, apart: u64, best: Lead) -> Lead
     }
 }
 
-// Of the non-adjacent live u < v the pair with most common neighbours, then smallest u, then smallest v.
+// Of left who has neighbours enough to lead, where more are needed than before.
+fn hopeful(degrees: Counts, before: usize, need: usize, left: u64) -> u64
+    ensures { λ r. ⌜ Hopeful degrees need left r ⌝ }
+{
+    if need <= before {
+        return left;
+    }
+    at_least(degrees, need, left)
+}
+
+// Of the non-adjacent live u < v the pair with most common neighbours, then smallest u, then smallest v. Who has fewer neighbours than would lead is
+// passed over, as u and as v.
 pub fn choose_among(live: u64, rows: &[u64; 64]) -> Choice
     requires { ⌜ Holds live (now rows) ⌝ }
     ensures { λ r. ⌜ Each live (now (rows .entry)) (λ h. choiceOf r ≡ pair (h .n) (view h)) ⌝ }
 {
+    let degrees = counted(rows, live);
     let mut best = Lead {
         size: 0,
         u: 0,
@@ -212,7 +226,9 @@ pub fn choose_among(live: u64, rows: &[u64; 64]) -> Choice
         left = without(left, u);
         let near = meet(rows[u], live);
         let apart = less(left, near);
+        let before = best.size;
         best = led(rows, u, near, apart, best);
+        left = hopeful(degrees, before, best.size, left);
     }
     if best.size == 0 {
         return Choice::Complete;

@@ -1,7 +1,6 @@
 -- `counts::at_least` meets its contract: what is taken from the count, digit by digit, is the whole. Assumes nothing.
 use native.Mathlib.Omega.{arith}
 use Rattle.sets.specs.Lists.{bit}
-use Rattle.sets.specs.Set.{has}
 use Rattle.sets.proofs.SetLaws.{has-none}
 use mathlib.Core.Path.{ap}
 use Rattle.counts.proofs.LeastLaws.{least-none, least-is}
@@ -37,9 +36,9 @@ less-requires : tie.Need-less-requires
 less-requires c κs = search needs
 
 returns-2 : tie.Need-returns-2
-returns-2 c = 
+returns-2 c =
     let a = c .before .before .before .before .before .before .before .before .before .args in
-    least-is (a .c) (a .need) (a .among) (c .before .borrowed7 .result) (c .less .result) (λ v k.
+    least-is (a .c) (a .need) (a .among) (c .before .borrowed7 .result) (c .less .result) (c .before .before .before .before .before .before .before .before .before .fits .among .fits) (λ v k.
     let z = ap bit (has-none v) in (
       omega (arith, z, (c .before .before .before .before .before .before .before .borrowed .ensures v k .0), (c .before .before .before .before .before .before .borrowed2 .ensures v k .0), (c .before .before .before .before .before .borrowed3 .ensures v k .0), (c .before .before .before .before .borrowed4 .ensures v k .0), (c .before .before .before .borrowed5 .ensures v k .0), (c .before .before .borrowed6 .ensures v k .0), (c .before .borrowed7 .ensures v k .0)),
       omega (arith, z, (c .before .before .before .before .before .before .before .borrowed .ensures v k .1), (c .before .before .before .before .before .before .borrowed2 .ensures v k .1), (c .before .before .before .before .before .borrowed3 .ensures v k .1), (c .before .before .before .before .borrowed4 .ensures v k .1), (c .before .before .before .borrowed5 .ensures v k .1), (c .before .before .borrowed6 .ensures v k .1), (c .before .borrowed7 .ensures v k .1)),

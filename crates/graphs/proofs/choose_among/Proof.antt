@@ -1,21 +1,26 @@
 -- `graphs::choose_among` meets its contract: what leads, and the rows that are left, give what all rows give. Assumes nothing.
-use mathlib.Core.Path.{refl}
-use Rattle.sets.specs.Set.{size}
+use native.Mathlib.Omega.{arith}
+use Rattle.sets.specs.Lists.{upto}
+use Rattle.sets.specs.Set.{has, size}
+use Rattle.sets.proofs.ListLaws.{count-le}
 use Rattle.graphs.specs.Held.{holding}
-use Rattle.graphs.proofs.LoopLaws.{left-falls, rest-next}
-use Rattle.graphs.proofs.ChooseLaws.{Scanned, scanned-none, scanned-next, scanned-all, row-mutual, leads-none, leads-some, sharing}
+use Rattle.graphs.proofs.LoopLaws.{left-falls, without-kept}
+use Rattle.graphs.proofs.ChooseLaws.{Scanned, scanned-none, scanned-next, scanned-all, row-mutual, degree-is, leads-none, leads-some, sharing}
 use borrow.Author.Needs.{needs}
 use Rattle.graphs.proofs.choose_among.Statement.{statement}
 use Rattle.graphs.proofs.choose_among.Tie as tie
 
 abbrev Inv-loop : tie.InvT-loop
-Inv-loop live rows best₀ left₀ best left = Scanned rows live best left
+Inv-loop live rows degrees best₀ left₀ best left = Scanned rows live best left
 
 abbrev μ-loop : tie.MeasureT-loop
-μ-loop live rows best₀ left₀ best left = size 64 left
+μ-loop live rows degrees best₀ left₀ best left = size 64 left
+
+counted-requires : tie.Need-counted-requires Inv-loop μ-loop
+counted-requires c κs = search needs
 
 loop-holds : tie.Need-loop-holds Inv-loop μ-loop
-loop-holds c = scanned-none (c .args .rows .now) (c .args .live)
+loop-holds c = scanned-none (c .before .args .rows .now) (c .before .args .live)
 
 lowest-requires : tie.Need-lowest-requires Inv-loop μ-loop
 lowest-requires c κs = search needs
@@ -37,31 +42,47 @@ less-requires c κs = search needs
 
 led-requires : tie.Need-led-requires Inv-loop μ-loop
 led-requires c κs =
-    let a = c .before .before .before .before .before .before .before in
+    let a = c .before .before .before .before .before .before .before .before in
     let l = c .before .before .before .before .before .before .loop in
-    row-mutual (holding (a .args .live) (a .args .rows .now) (a .pre .0)) (a .pre .1) (a .args .live) (c .before .before .before .before .lowest .result) (c .before .before .before .without .result) (c .before .meet .result) (c .less .result) refl
-    (rest-next (a .args .live) (l .left) (c .before .before .before .before .lowest .result) (c .before .before .before .without .result) (l .inv .rest) (c .before .before .before .before .lowest .ensures) (c .before .before .before .without .ensures)) (c .before .meet .ensures) (c .less .ensures)
+    let w = c .before .before .before .without in
+    row-mutual (holding (a .args .live) (a .args .rows .now) (a .pre .0)) (a .pre .1) (c .before .before .before .before .lowest .result) (w .result) (c .before .meet .result) (c .less .result)
+    (λ x t. l .inv .rest .within x (without-kept (l .left) (c .before .before .before .before .lowest .result) (w .result) x (w .ensures) t .0)) (c .before .meet .ensures) (c .less .ensures)
+
+hopeful-requires : tie.Need-hopeful-requires Inv-loop μ-loop
+hopeful-requires c κs = search needs
 
 loop-less : tie.Need-loop-less Inv-loop μ-loop
-loop-less c = left-falls _ _ _ (c .before .before .before .before .before .lowest .ensures) (c .before .before .before .before .without .ensures)
+loop-less c =
+    let w = c .before .before .before .before .before .without in
+    omega (
+      arith,
+      count-le (has (c .hopeful .result)) (has (w .result)) (upto 64) (c .hopeful .ensures .within),
+      left-falls (c .before .before .before .before .before .before .before .before .loop .left) (c .before .before .before .before .before .before .lowest .result) (w .result) (c .before .before .before .before .before .before .lowest .ensures) (w .ensures),
+    )
 
 loop-again : tie.Need-loop-again Inv-loop μ-loop
 loop-again c =
-    let a = c .before .before .before .before .before .before .before .before .args in
-    let l = c .before .before .before .before .before .before .before .loop in
-    scanned-next (a .rows .now) (a .live) (l .best) (l .left) (c .before .before .before .before .before .lowest .result) (c .before .before .before .before .without .result) (c .before .before .meet .result) (c .before .less .result) (l .inv) (c .before .before .before .before .before .lowest .ensures)
-    (c .before .before .before .before .without .ensures) (c .before .before .meet .ensures) (c .before .less .ensures) (c .led .result) (c .led .ensures)
+    let a = c .before .before .before .before .before .before .before .before .before .before in
+    let l = c .before .before .before .before .before .before .before .before .loop in
+    let u = c .before .before .before .before .before .before .lowest in
+    let w = c .before .before .before .before .before .without in
+    scanned-next (a .args .rows .now) (a .args .live) (l .best) (l .left) (u .result) (w .result) (c .before .before .before .meet .result) (c .before .before .less .result) (l .inv) (u .ensures) (w .ensures)
+    (c .before .before .before .meet .ensures) (c .before .before .less .ensures) (c .before .led .result) (c .before .led .ensures) (c .hopeful .result) (c .hopeful .ensures .within)
+    (λ v t q.
+    let e = degree-is (holding (a .args .live) (a .args .rows .now) (a .pre .0)) (a .pre .1) (c .before .before .before .before .before .before .before .before .before .counted .result) (c .before .before .before .before .before .before .before .before .before .counted .ensures) v
+    (l .inv .rest .within v (without-kept (l .left) (u .result) (w .result) v (w .ensures) t .0)) in
+    omega (arith, e, c .hopeful .ensures .out v t q))
 
 returns : tie.Need-returns Inv-loop μ-loop
 returns c =
-    let a = c .before .before .before .before .args in
+    let a = c .before .before .before .before .before .args in
     let l = c .before .before .before .loop in
     λ m k.
     leads-none (sharing (a .rows .now) (a .live)) (l .best) _ (scanned-all (holding (a .live) (a .rows .now) m) k (l .best) (l .left) (c .before .before .loop-test .left) (l .inv)) (c .if1 .taken)
 
 returns-2 : tie.Need-returns-2 Inv-loop μ-loop
 returns-2 c =
-    let a = c .before .before .before .before .args in
+    let a = c .before .before .before .before .before .args in
     let l = c .before .before .before .loop in
     λ m k.
     leads-some (sharing (a .rows .now) (a .live)) (l .best) _ (scanned-all (holding (a .live) (a .rows .now) m) k (l .best) (l .left) (c .before .before .loop-test .left) (l .inv)) (c .if1 .left)
@@ -72,6 +93,7 @@ choose-among-spec =
     (tie.spec
     Inv-loop
     μ-loop
+    counted-requires
     loop-holds
     lowest-requires
     without-requires
@@ -80,6 +102,7 @@ choose-among-spec =
     meet-requires
     less-requires
     led-requires
+    hopeful-requires
     loop-less
     loop-again
     returns
