@@ -45,13 +45,6 @@ module _ (rows : List ℕ) (near u v m c : ℕ) (l : Lead) (h : IsMeet near (get
   pub lead-kept : c + 1 ≤ l .size → l ≡ lead (shared rows near) u l v
   lead-kept b = sym (lead-less (shared rows near) u l v (omega (arith, plus)))
 
--- no v leads where near is too small: what u and v share are members of near
-pub lead-none : (rows : List ℕ) (near u : ℕ) (l : Lead) (vs : List ℕ) → size 64 near < l .size → over (lead (shared rows near) u) l vs ≡ l
-lead-none rows near u l vs b = lead-stays (shared rows near) u vs l (λ v i. omega (arith, few v))
-  where
-    few : (v : ℕ) → shared rows near v ≤ size 64 near
-    few v = count-le (λ w. has near w && has (getD rows v zero) w) (has near) (upto 64) (λ w t. and-l (has near w) (has (getD rows v zero) w) t)
-
 -- ---- all pairs of u at once
 
 -- the members of near in whose rows v is are those in v's row

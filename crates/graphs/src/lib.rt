@@ -171,7 +171,7 @@ fn by_pairs(rows: &[u64; 64], u: usize, near: u64, apart: u64, best: Lead) -> Le
     best
 }
 
-// The same. None of them leads where near is too small; where apart is small beside near, pairs cost less than counts.
+// The same. Where apart is small beside near, pairs cost less than counts.
 fn led(rows: &[u64; 64], u: usize, near: u64, apart: u64, best: Lead) -> Lead
     requires { ⌜ Mutual (now rows) near apart ⌝ }
     ensures { λ r. ⌜ r ≡ over (lead (shared (now (rows .entry)) near) u) best (members (member apart) 64) ⌝ }
@@ -179,11 +179,7 @@ fn led(rows: &[u64; 64], u: usize, near: u64, apart: u64, best: Lead) -> Lead
     if apart == 0 {
         return best;
     }
-    let degree = size(near);
-    if degree < best.size {
-        return best;
-    }
-    if 2 * size(apart) <= degree + 8 {
+    if 2 * size(apart) <= size(near) + 8 {
         return by_pairs(rows, u, near, apart, best);
     }
     let m = greatest(counted(rows, near), apart);

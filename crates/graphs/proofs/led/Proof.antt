@@ -1,11 +1,9 @@
 -- `graphs::led` meets its contract: pair by pair, or by the counts of all. Assumes nothing.
 use mathlib.Core.Path.{sym}
 use native.Mathlib.Omega.{arith}
-use Rattle.sets.specs.Lists.{members}
-use Rattle.sets.specs.Set.{has}
 use Rattle.graphs.specs.Acts.{lead, shared}
 use Rattle.graphs.proofs.LoopLaws.{size-le, over-none}
-use Rattle.graphs.proofs.ChooseLaws.{lead-none, most-behind, most-few, most-leads}
+use Rattle.graphs.proofs.ChooseLaws.{most-behind, most-few, most-leads}
 use borrow.Author.Needs.{needs}
 use Rattle.graphs.proofs.led.Statement.{statement}
 use Rattle.graphs.proofs.led.Tie as tie
@@ -18,25 +16,20 @@ returns c =
 size-requires : tie.Need-size-requires
 size-requires c κs = search needs
 
-returns-2 : tie.Need-returns-2
-returns-2 c =
-    let a = c .before .before .before .before .args in
-    sym (lead-none (a .rows .now) (a .near) (a .u) (a .best) (members (has (a .apart)) 64) (omega (arith, c .if2 .taken, c .before .before .size .ensures)))
+mul-if2 : tie.Need-mul-if2
+mul-if2 c = omega (arith, c .size .ensures, size-le 64 (c .before .before .args .apart))
 
 size-requires-2 : tie.Need-size-requires-2
 size-requires-2 c κs = search needs
 
-mul-if3 : tie.Need-mul-if3
-mul-if3 c = omega (arith, c .size2 .ensures, size-le 64 (c .before .before .before .before .before .args .apart))
-
-add-if3 : tie.Need-add-if3
-add-if3 c = omega (arith, c .before .before .before .size .ensures, size-le 64 (c .before .before .before .before .before .args .near))
+add-if2 : tie.Need-add-if2
+add-if2 c = omega (arith, c .size2 .ensures, size-le 64 (c .before .before .before .args .near))
 
 by-pairs-requires : tie.Need-by-pairs-requires
 by-pairs-requires c κs = search needs
 
-returns-3 : tie.Need-returns-3
-returns-3 c = search needs
+returns-2 : tie.Need-returns-2
+returns-2 c = search needs
 
 counted-requires : tie.Need-counted-requires
 counted-requires c κs = search needs
@@ -44,34 +37,34 @@ counted-requires c κs = search needs
 greatest-requires : tie.Need-greatest-requires
 greatest-requires c κs = search needs
 
-returns-4 : tie.Need-returns-4
-returns-4 c =
-    let s = c .before .before .before .before .before .before .before .before .before .before .before in
+returns-3 : tie.Need-returns-3
+returns-3 c =
+    let s = c .before .before .before .before .before .before .before .before .before in
     let a = s .args in
     let k = c .before .before .before .before .counted in
     let m = c .before .before .before .greatest in
-    most-behind (a .rows .now) (a .near) (a .apart) (a .u) (a .best) (k .result) (m .result) (s .pre) (k .ensures) (m .ensures) (c .if4 .taken)
+    most-behind (a .rows .now) (a .near) (a .apart) (a .u) (a .best) (k .result) (m .result) (s .pre) (k .ensures) (m .ensures) (c .if3 .taken)
 
 lowest-requires : tie.Need-lowest-requires
-lowest-requires c κs = c .before .before .before .greatest .ensures .some (c .before .before .before .before .before .before .before .before .before .before .if1 .left)
+lowest-requires c κs = c .before .before .before .greatest .ensures .some (c .before .before .before .before .before .before .before .before .if1 .left)
 
-add-t10 : tie.Need-add-t10
-add-t10 c =
-    let s = c .before .before .before .before .before .before .before .before .before .before .before .before .before in
+add-t9 : tie.Need-add-t9
+add-t9 c =
+    let s = c .before .before .before .before .before .before .before .before .before .before .before in
     let a = s .args in
     let k = c .before .before .before .before .before .before .counted in
     let m = c .before .before .before .before .before .greatest in
     let few = most-few (a .rows .now) (a .near) (a .apart) (a .u) (a .best) (k .result) (m .result) (s .pre) (k .ensures) (m .ensures) (c .before .lowest .result) (c .before .lowest .ensures) in
     omega arith
 
-returns-5 : tie.Need-returns-5
-returns-5 c =
-    let s = c .before .before .before .before .before .before .before .before .before .before .before .before .before in
+returns-4 : tie.Need-returns-4
+returns-4 c =
+    let s = c .before .before .before .before .before .before .before .before .before .before .before in
     let a = s .args in
     let k = c .before .before .before .before .before .before .counted in
     let m = c .before .before .before .before .before .greatest in
     most-leads (a .rows .now) (a .near) (a .apart) (a .u) (a .best) (k .result) (m .result) (s .pre) (k .ensures) (m .ensures) (c .before .lowest .result) (c .before .lowest .ensures)
-    (c .before .before .if4 .left)
+    (c .before .before .if3 .left)
 
 pub led-spec : {M : Type 1} → statement M
 led-spec =
@@ -79,15 +72,14 @@ led-spec =
     (tie.spec
     returns
     size-requires
-    returns-2
+    mul-if2
     size-requires-2
-    mul-if3
-    add-if3
+    add-if2
     by-pairs-requires
-    returns-3
+    returns-2
     counted-requires
     greatest-requires
-    returns-4
+    returns-3
     lowest-requires
-    add-t10
-    returns-5)
+    add-t9
+    returns-4)
