@@ -45,8 +45,8 @@ pub fn seconds(calls: &mut [&mut dyn FnMut()], patience: f64) -> Vec<f64> {
             }
         }
         rounds += 1;
-        // One round of long calls is enough: they even out by themselves.
-        if spent > 2.0 {
+        // Long calls get three rounds, unless they are very long: on a machine that others share one round is off by a fifth at times.
+        if spent > 12.0 {
             break;
         }
     }

@@ -7,7 +7,6 @@ use sets::lowest;
 use sets::meet;
 use sets::size;
 use sets::with;
-ghost use mathlib.Core.Path.{_≡_};
 ghost use Prim.Native.Nat.{ℕ, _<_};
 ghost use lib.Dec.{T};
 ghost use Rattle.sets.specs.Set.{has};
@@ -85,14 +84,6 @@ pub fn clique_among(live: u64, rows: &[u64; 64], enough: usize) -> u64
         }
     }
     best
-}
-
-// The clique of a node, or a clique on the way to it that has as many members as are enough.
-pub fn clique_up_to(h: Node, enough: usize) -> u64
-    requires { ⌜ Held h ⌝ }
-    ensures { λ r. ⌜ Reaches (h .n) (view h) enough r ⌝ }
-{
-    clique_among(h.live, &h.rows, enough)
 }
 
 // The members of the clique.

@@ -6,7 +6,6 @@ use sets::less;
 use sets::lowest;
 use sets::meet;
 use sets::rest;
-ghost use mathlib.Core.Path.{_≡_};
 ghost use Prim.Native.Nat.{_+_, _<_};
 ghost use Rattle.counts.specs.Counts.{Counted, IsMost, IsAtLeast};
 ghost use Rattle.counts.specs.Steps.{IsHalf, IsSum, IsPulled, Fits, Absorbed, IsNarrowed, IsBorrowed};

@@ -19,7 +19,7 @@ ghost use lib.ListN.{length, take};
 ghost use Rattle.sets.specs.Lists.{members, over};
 ghost use Rattle.sets.specs.Set.{has as member};
 ghost use Rattle.clashes.specs.Matrix.{Sound};
-ghost use Rattle.graphs.specs.Graph.{to, merge, separate, pair, complete, grouping};
+ghost use Rattle.graphs.specs.Graph.{to, pair, complete, grouping};
 ghost use Rattle.graphs.specs.Held.{Held, view, choiceOf, Holds, Each};
 ghost use Rattle.graphs.specs.Acts.{IsRoot, Linked, Renamed, MergedRows, SeparatedRows, lead, shared, Mutual, Hopeful};
 

@@ -2,12 +2,12 @@
 // Reading gathers the rows aside and lends nothing back before the whole text is judged. One pass over the text.
 ghost use mathlib.Core.Path.{_≡_};
 ghost use mathlib.Core.List.{_++_};
-ghost use Prim.Native.Nat.{_+_, _-_, _*_, _≤_, _<_};
+ghost use Prim.Native.Nat.{_+_, _-_, _≤_, _<_};
 ghost use lib.ListN.{length, take, drop};
 ghost use Rattle.lines.specs.Numeral.{Put};
 ghost use Rattle.lists.specs.Shape.{shapeOf};
 ghost use Rattle.lists.specs.Read.{edgeOf, stepOf, mark, finish, readOf, refused as refusedAt};
-ghost use Rattle.lists.specs.Edges.{rowEdges, edgesFrom, edges};
+ghost use Rattle.lists.specs.Edges.{rowEdges, edges};
 ghost use Rattle.lists.specs.Write.{edgesText, textOf};
 ghost use Rattle.lists.specs.Promise.{ReadPromise, WritePromise};
 

@@ -1,7 +1,7 @@
 -- Laws of lists: counts, tables, elements, lists with no element twice, selections, the greatest. Assumes nothing.
 use mathlib.Core.Path.{_≡_, refl, sym, ap, _∙_, subst}
 use mathlib.Core.Logic.{_⊎_, inl, inr, _≢_}
-use mathlib.Core.Bool.{Bool, true, false, _&&_, cond}
+use mathlib.Core.Bool.{Bool, true, false, cond}
 use mathlib.Core.List.{List, [], _∷_, _++_, map}
 use mathlib.Core.Option.{Option, none, some, Option·none-ne-some, Option·some-ne-none, Option·some-injective}
 use Prim.Native.Nat.{ℕ, zero, suc, _+_, _≤_, _<_, zero-le, suc-le-suc}
@@ -11,7 +11,7 @@ use native.Mathlib.Omega.{arith}
 use lib.Dec.{T, leb}
 use lib.ListN.{length, getD}
 use Rattle.sets.specs.Lists.{bit, In, NoDup, count, every, table, put, select, better, greatest}
-use Rattle.sets.proofs.TestLaws.{and-l, and-r, bit-one, bit-zero, T?}
+use Rattle.sets.proofs.TestLaws.{and-l, and-r, bit-one, bit-zero}
 
 module _ {A : Type 0} where
   -- ---- counts

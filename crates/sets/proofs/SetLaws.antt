@@ -3,7 +3,7 @@
 use mathlib.Core.Path.{_≡_, refl, sym, ap, ap₂, _∙_, subst}
 use mathlib.Core.Logic.{_≢_}
 use mathlib.Core.Bool.{Bool, true, false, not, _&&_, _||_, cond}
-use mathlib.Core.List.{List, [], _∷_}
+use mathlib.Core.List.{_∷_}
 use mathlib.Core.Option.{some}
 use Prim.Native.Nat.{ℕ, zero, suc, _+_, _*_, _-_, _/_, _%_, _^_, _≤_, _<_, max, min}
 use native.Mathlib.Nat.{div-one, div-eq-of-lt, not-suc-le-zero, le-of-suc-le-suc, lt-of-lt-of-le, sub-zero, suc-sub-suc}
@@ -12,10 +12,10 @@ use native.Mathlib.Omega.{arith}
 use lib.Arith.{lt-one, bin-ind}
 use lib.Bits.{bitwise, bitwise-step, bitAnd, bitOr, and-step, or-step, and-zero-l, block-half, block-odd}
 use lib.Count.{ones, ones-step, trailingZeros, under}
-use lib.Dec.{T, eqb, ltb, leb, eqb→eq, eqb·zero-suc, eqb·suc-zero, eqb·suc-suc, leb·zero, leb·suc-zero, leb·suc-suc, ltb→lt, lt→ltb}
+use lib.Dec.{T, eqb, ltb, leb, eqb→eq, eqb·zero-suc, eqb·suc-zero, eqb·suc-suc, leb·zero, leb·suc-zero, leb·suc-suc}
 use lib.Pow.{shr-shr, pow-mono, pow-pos}
 use borrow.Author.Tests.{eq-eqb, ne-eqb}
-use Rattle.sets.specs.Lists.{bit, count, table, upto, all, members, lowest}
+use Rattle.sets.specs.Lists.{bit, count, table, upto, members, lowest}
 use Rattle.sets.specs.Set.{has, size, subset, IsWith, IsWithout, IsJoin, IsMeet, IsLess, IsBelow, IsLowest, IsRest}
 use Rattle.sets.proofs.TestLaws.{and-r, and-true, T→false, T-ext, eqb-same, all-get, all-make}
 use Rattle.sets.proofs.ListLaws.{count-iff}

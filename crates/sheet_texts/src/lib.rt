@@ -2,9 +2,8 @@
 // every list that it does not clash with (proofs/Calls.antt).
 // The text is composed aside, in a buffer that every sheet fits, and copied whole: nothing is written where it does not fit.
 ghost use mathlib.Core.Path.{_≡_};
-ghost use mathlib.Core.List.{[]};
 ghost use Prim.Native.Nat.{_+_, _≤_, _<_};
-ghost use lib.ListN.{length, take, drop};
+ghost use lib.ListN.{length, take};
 ghost use Rattle.clashes.specs.Divisions.{Canon, groups};
 ghost use Rattle.lines.specs.Numeral.{Put};
 ghost use Rattle.sheet_texts.specs.Sheet.{numbering, membersOf, memberLines, groupText, groupsText, sheetText};

@@ -1,7 +1,5 @@
 -- The line that a refusal names: 17 cannot arise, a fault at the sheet's end names the number of lines plus one, and the part that is then
 -- shown is the empty one at the text's end.
---
---   lineCount t : how many lines t has
 use Prim.Native.Nat.{ℕ, zero, suc, _+_, _-_, _≤_, _<_}
 use mathlib.Core.Path.{_≡_, refl, sym, ap, subst, _∙_}
 use mathlib.Core.List.{List}
@@ -23,6 +21,7 @@ use Rattle.lines.proofs.Basics.{cond-cases}
 use Rattle.lines.proofs.Lines.{line-ended, line-unended, next-mid, next-end, place-le}
 use Rattle.lists.specs.Read.{stepOf as stepList, after as afterList, readFrom, readOf, edgeOf, inside as insideList, start as startList, noRows}
 use Rattle.lists.specs.Shape.{shapeOf}
+use Rattle.lists.proofs.Lines.{lineCount}
 use Rattle.lists.specs.declared.Fault.{Fault}
 use Rattle.lists.specs.declared.Fault.the-variants.{Line as NoLine, Headless, Second, Size, Vertex, Loop, Count as Counted, Room, Long as TooLong}
 use Rattle.lists.specs.declared.Found.{Found}
@@ -94,11 +93,6 @@ read-roomy : (s : List ℕ) → Roomy (readOf s 64 .answer)
 read-roomy s = cond-cases (λ (x : Found). Roomy (x .answer)) (leb (length s) 65536) _ _ (λ _. from-roomy (linesOf s) 1 startList noRows) (λ _. tt)
 
 -- ---- the line that is named
-
-abbrev pub lineCount : Text → ℕ
-lineCount done = 0
-lineCount (unended l) = 1
-lineCount (ended l t) = suc (lineCount t)
 
 -- 35 and 36 name the line e after the last; any other fault one of the lines from k on
 abbrev Spot : SheetFault → ℕ → ℕ → ℕ → Type 0

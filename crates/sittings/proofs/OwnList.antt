@@ -1,10 +1,9 @@
 -- What a walk answers, written and checked against its own list, is accepted: a text is read, either walk divides its rows, the division is
 -- written as a sheet, and the sheet is checked against that same text. From the four promises alone. Assumes nothing.
 use Prim.Native.Nat.{ℕ, _≤_}
-use mathlib.Core.Path.{_≡_, sym, ap, subst, _∙_}
+use mathlib.Core.Path.{_≡_, ap, subst, _∙_}
 use mathlib.Core.Bool.{Bool}
 use mathlib.Core.List.{List, _++_}
-use native.Mathlib.Omega.{arith}
 use lib.Dec.{T}
 use lib.ListN.{length, take, drop}
 use Rattle.clashes.specs.Divisions.{groups, Division, clashFree}

@@ -1,5 +1,5 @@
 -- `clashes::first_one_sided` meets its contract: no row before this one has a bit that is not returned. Assumes nothing.
-use Prim.Native.Nat.{ℕ, _≤_, _<_, _-_}
+use Prim.Native.Nat.{_≤_, _-_}
 use native.Mathlib.Omega.{arith}
 use lib.ListN.{length}
 use borrow.Author.Count.{below-more}

@@ -1,13 +1,10 @@
 -- `clashes::first_stray` meets its contract: no row before i has a bit at n or above. Assumes nothing.
-use mathlib.Core.Path.{_≡_, sym, ap, _∙_, subst}
-use mathlib.Core.Bool.{Bool, not, _&&_}
-use Prim.Native.Nat.{ℕ, _≤_, _<_, _-_}
+use Prim.Native.Nat.{_≤_, _-_}
 use native.Mathlib.Omega.{arith}
-use lib.Dec.{T, ltb}
-use lib.ListN.{length, getD}
+use lib.ListN.{length}
 use borrow.Author.Count.{below-more}
 use borrow.Author.Needs.{needs}
-use Rattle.sets.specs.Set.{has, IsBelow}
+use Rattle.sets.specs.Set.{IsBelow}
 use Rattle.clashes.specs.Matrix.{HasStray, NoRow}
 use Rattle.clashes.proofs.MatrixLaws.{stray-some, stray-none}
 use Rattle.clashes.proofs.first_stray.Statement.{statement}

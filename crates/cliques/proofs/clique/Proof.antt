@@ -2,7 +2,6 @@
 use mathlib.Core.Logic.{inl, inr}
 use native.Mathlib.Omega.{arith}
 use Rattle.graphs.proofs.LoopLaws.{size-le}
-use borrow.Author.Needs.{needs}
 use Rattle.cliques.proofs.clique.Statement.{statement}
 use Rattle.cliques.proofs.clique.Tie as tie
 

@@ -1,6 +1,6 @@
 -- `cliques::clique_among` meets its contract. The loop's invariant: the best so far, against what the free vertices will open, gives the clique; most
 -- is its size. The measure: how many vertices are free. Assumes nothing.
-use mathlib.Core.Path.{_≡_, refl, sym, subst}
+use mathlib.Core.Path.{_≡_, sym, subst}
 use mathlib.Core.Logic.{inl, inr}
 use native.Mathlib.Nat.{le-trans, le-of-eq}
 use native.Mathlib.Omega.{arith}

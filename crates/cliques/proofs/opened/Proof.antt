@@ -1,6 +1,6 @@
 -- `cliques::opened` meets its contract. Assumes nothing.
 use mathlib.Core.Path.{subst}
-use mathlib.Core.List.{List, [], _∷_}
+use mathlib.Core.List.{[], _∷_}
 use Rattle.graphs.specs.Held.{view, holding}
 use Rattle.cliques.specs.Growth.{Grown}
 use Rattle.cliques.proofs.WordLaws.{grown-alone}

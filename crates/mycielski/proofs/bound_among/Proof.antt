@@ -1,10 +1,10 @@
 -- `mycielski::bound_among` meets its contract: what the clique, or the first round, tells is what the rounds give. Assumes nothing.
-use mathlib.Core.Path.{_≡_, _∙_}
+use mathlib.Core.Path.{_∙_}
 use native.Mathlib.Omega.{arith}
 use Rattle.sets.specs.Set.{has, size}
 use Rattle.graphs.specs.Held.{holding}
-use Rattle.mycielski.specs.Rounds.{Part, whole}
-use Rattle.mycielski.proofs.ClimbLaws.{Climb, reaches-most, reaches-short, clique-live, climb-start, climb-full, climb-none, climb-more}
+use Rattle.mycielski.specs.Rounds.{whole}
+use Rattle.mycielski.proofs.ClimbLaws.{reaches-most, reaches-short, clique-live, climb-start, climb-full, climb-none, climb-more}
 use borrow.Author.Needs.{needs}
 use Rattle.mycielski.proofs.bound_among.Statement.{statement}
 use Rattle.mycielski.proofs.bound_among.Tie as tie

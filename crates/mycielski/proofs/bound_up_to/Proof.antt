@@ -1,5 +1,4 @@
 -- `mycielski::bound_up_to` meets its contract. Assumes nothing.
-use borrow.Author.Needs.{needs}
 use Rattle.mycielski.proofs.bound_up_to.Statement.{statement}
 use Rattle.mycielski.proofs.bound_up_to.Tie as tie
 

@@ -1,8 +1,7 @@
 -- `mycielski::first_witnesses` meets its contract. The loop's invariant: ws has the vertices that are adjacent, for each v that is done, to some member
 -- of S(v). The measure: what is left. Assumes nothing.
-use mathlib.Core.Path.{_≡_, subst}
-use mathlib.Core.Bool.{Bool}
-use Prim.Native.Nat.{ℕ, _-_, _^_}
+use mathlib.Core.Path.{subst}
+use Prim.Native.Nat.{_-_, _^_}
 use lib.Bits.{bitAnd}
 use Rattle.graphs.proofs.LoopLaws.{left-falls}
 use Rattle.sets.specs.Set.{has, size}
@@ -10,7 +9,7 @@ use Rattle.sets.proofs.SetLaws.{without-is}
 use Rattle.graphs.specs.Held.{Held, holding}
 use Rattle.graphs.specs.declared.Node.{Node}
 use Rattle.cliques.specs.Growth.{Within}
-use Rattle.mycielski.specs.Rounds.{Part, whole}
+use Rattle.mycielski.specs.Rounds.{whole}
 use Rattle.mycielski.proofs.DoneLaws.{within-again}
 use Rattle.mycielski.proofs.WitnessLoops.{serving-live, Witness, witness-start, witness-more, witness-end, witness-none}
 use Rattle.mycielski.proofs.FirstLoops.{first-serving, outside-among}

@@ -1,6 +1,6 @@
 -- `mycielski::outside` meets its contract. Assumes nothing.
 use mathlib.Core.Path.{sym, subst}
-use mathlib.Core.Logic.{_⊎_, inl, inr}
+use mathlib.Core.Logic.{inl, inr}
 use mathlib.Core.Bool.{not}
 use lib.Dec.{T}
 use Rattle.sets.specs.Set.{has}

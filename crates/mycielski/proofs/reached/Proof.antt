@@ -1,6 +1,6 @@
 -- `mycielski::reached` meets its contract. The loop's invariant: r has the vertices that are adjacent to some that is done. The measure: what is
 -- left. Assumes nothing.
-use mathlib.Core.Path.{_≡_, refl, subst}
+use mathlib.Core.Path.{subst}
 use Prim.Native.Nat.{ℕ}
 use Rattle.graphs.proofs.LoopLaws.{left-falls}
 use Rattle.sets.specs.Set.{size}

@@ -1,6 +1,6 @@
 -- `mycielski::serving` meets its contract. The loop's invariant: s has the vertices that are adjacent to all that is done. The measure: what is left.
 -- Assumes nothing.
-use mathlib.Core.Path.{_≡_, refl, subst}
+use mathlib.Core.Path.{subst}
 use Rattle.graphs.proofs.LoopLaws.{left-falls}
 use Rattle.sets.specs.Set.{size}
 use Rattle.graphs.specs.Held.{Held, holding}

@@ -1,6 +1,6 @@
 -- `mycielski::tie` meets its contract. The loop's invariant: the edges to what is done are laid. The measure: what is left. Assumes nothing.
-use mathlib.Core.Path.{_≡_, refl, _∙_, subst}
-use lib.ListN.{length, set, length-set}
+use mathlib.Core.Path.{_∙_, subst}
+use lib.ListN.{set, length-set}
 use Rattle.graphs.proofs.LoopLaws.{left-falls}
 use Rattle.sets.specs.Set.{size}
 use Rattle.mycielski.proofs.EdgeLoops.{Tying, tying-start, tying-again, tying-end}

@@ -1,9 +1,7 @@
 -- `mycielski::witnesses` meets its contract. The loop's invariant: ws has the vertices that are adjacent, for each v that is done, to some member of
 -- S(v). The measure: what is left. Assumes nothing.
-use mathlib.Core.Path.{_≡_, subst}
-use mathlib.Core.Bool.{Bool}
-use mathlib.Core.List.{List}
-use Prim.Native.Nat.{ℕ, _-_, _^_}
+use mathlib.Core.Path.{subst}
+use Prim.Native.Nat.{_-_, _^_}
 use lib.Bits.{bitAnd}
 use lib.ListN.{getD}
 use Rattle.graphs.proofs.LoopLaws.{left-falls}

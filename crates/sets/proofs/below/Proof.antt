@@ -1,6 +1,6 @@
 -- `sets::below` meets its contract: all 64 digits, or 2 ^ n - 1. Assumes nothing.
 use mathlib.Core.Path.{sym, ap, _∙_, _≡_}
-use Prim.Native.Nat.{ℕ, _-_, _*_, _^_, _%_, _<_}
+use Prim.Native.Nat.{ℕ, _-_, _*_, _^_, _%_}
 use native.Mathlib.Omega.{arith}
 use lib.Dec.{ltb}
 use lib.Pow.{pow-pos}

@@ -1,5 +1,5 @@
 -- `sets::without` meets its contract. Assumes nothing.
-use mathlib.Core.Path.{_≡_, ap, _∙_}
+use mathlib.Core.Path.{ap, _∙_}
 use Prim.Native.Nat.{ℕ, _-_}
 use lib.Bits.{bitAnd, and-le-l}
 use borrow.Author.Needs.{needs}

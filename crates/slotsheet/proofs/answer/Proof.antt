@@ -1,6 +1,6 @@
 -- `slotsheet::answer` is safe and ends: the lent rows keep their length. Assumes nothing.
 use native.Mathlib.Omega.{arith}
-use lib.ListN.{length, length-take}
+use lib.ListN.{length-take}
 use borrow.Author.Needs.{needs}
 use Rattle.slotsheet.proofs.answer.Statement.{statement}
 use Rattle.slotsheet.proofs.answer.Tie as tie
