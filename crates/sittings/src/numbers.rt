@@ -3,6 +3,8 @@ use bounds::Bound;
 use clashes::Verdict;
 use lists::Fault;
 use lists::Reading;
+use refusals::Refusal;
+use refusals::number;
 use sheets::Checked;
 use walk::Answer;
 ghost use mathlib.Core.Path.{_≡_};
@@ -68,10 +70,22 @@ pub fn of_verdict(v: Verdict) -> VerdictNumbers
 {
     match v {
         Verdict::Valid => VerdictNumbers { refusal: 0, row: 0 },
-        Verdict::Many => VerdictNumbers { refusal: 1, row: 0 },
-        Verdict::Stray(row) => VerdictNumbers { refusal: 2, row },
-        Verdict::Itself(row) => VerdictNumbers { refusal: 3, row },
-        Verdict::OneSided(row) => VerdictNumbers { refusal: 4, row },
+        Verdict::Many => VerdictNumbers {
+            refusal: number(Refusal::Many),
+            row: 0,
+        },
+        Verdict::Stray(row) => VerdictNumbers {
+            refusal: number(Refusal::Stray),
+            row,
+        },
+        Verdict::Itself(row) => VerdictNumbers {
+            refusal: number(Refusal::Itself),
+            row,
+        },
+        Verdict::OneSided(row) => VerdictNumbers {
+            refusal: number(Refusal::OneSided),
+            row,
+        },
     }
 }
 
@@ -85,22 +99,22 @@ pub fn of_bound(b: Bound) -> BoundNumbers
             bound,
         },
         Bound::Many => BoundNumbers {
-            refusal: 1,
+            refusal: number(Refusal::Many),
             row: 0,
             bound: 0,
         },
         Bound::Stray(row) => BoundNumbers {
-            refusal: 2,
+            refusal: number(Refusal::Stray),
             row,
             bound: 0,
         },
         Bound::Itself(row) => BoundNumbers {
-            refusal: 3,
+            refusal: number(Refusal::Itself),
             row,
             bound: 0,
         },
         Bound::OneSided(row) => BoundNumbers {
-            refusal: 4,
+            refusal: number(Refusal::OneSided),
             row,
             bound: 0,
         },
@@ -119,49 +133,49 @@ pub fn of_walk(a: Answer) -> WalkNumbers
             leaves,
         },
         Answer::Many => WalkNumbers {
-            refusal: 1,
+            refusal: number(Refusal::Many),
             row: 0,
             k: 0,
             nodes: 0,
             leaves: 0,
         },
         Answer::Stray(row) => WalkNumbers {
-            refusal: 2,
+            refusal: number(Refusal::Stray),
             row,
             k: 0,
             nodes: 0,
             leaves: 0,
         },
         Answer::Itself(row) => WalkNumbers {
-            refusal: 3,
+            refusal: number(Refusal::Itself),
             row,
             k: 0,
             nodes: 0,
             leaves: 0,
         },
         Answer::OneSided(row) => WalkNumbers {
-            refusal: 4,
+            refusal: number(Refusal::OneSided),
             row,
             k: 0,
             nodes: 0,
             leaves: 0,
         },
         Answer::Short => WalkNumbers {
-            refusal: 5,
+            refusal: number(Refusal::Short),
             row: 0,
             k: 0,
             nodes: 0,
             leaves: 0,
         },
         Answer::Budget(nodes) => WalkNumbers {
-            refusal: 6,
+            refusal: number(Refusal::Budget),
             row: 0,
             k: 0,
             nodes,
             leaves: 0,
         },
         Answer::Deep => WalkNumbers {
-            refusal: 7,
+            refusal: number(Refusal::Deep),
             row: 0,
             k: 0,
             nodes: 0,
@@ -213,27 +227,27 @@ pub fn of_list(a: lists::Written) -> WriteNumbers
             length,
         },
         lists::Written::Many => WriteNumbers {
-            refusal: 1,
+            refusal: number(Refusal::Many),
             place: 0,
             length: 0,
         },
         lists::Written::Stray(place) => WriteNumbers {
-            refusal: 2,
+            refusal: number(Refusal::Stray),
             place,
             length: 0,
         },
         lists::Written::Itself(place) => WriteNumbers {
-            refusal: 3,
+            refusal: number(Refusal::Itself),
             place,
             length: 0,
         },
         lists::Written::OneSided(place) => WriteNumbers {
-            refusal: 4,
+            refusal: number(Refusal::OneSided),
             place,
             length: 0,
         },
         lists::Written::Full => WriteNumbers {
-            refusal: 19,
+            refusal: number(Refusal::Full),
             place: 0,
             length: 0,
         },
