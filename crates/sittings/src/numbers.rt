@@ -1,14 +1,13 @@
 // Document 01's numbers of each answer, for callers that go by numbers: other languages, and the program.
 use bounds::Bound;
 use clashes::Verdict;
-use lists::Fault;
 use lists::Reading;
+use lists::refusal_of;
 use refusals::Refusal;
 use refusals::number;
 use sheets::Checked;
 use walk::Answer;
 ghost use mathlib.Core.Path.{_≡_};
-ghost use Rattle.lists.specs.Promise.{numberOf as faultNumber};
 ghost use Rattle.sittings.specs.Numbers.{verdictNumbers, boundNumbers, walkNumbers, readNumbers, listNumbers, sheetNumbers, checkNumbers, partNumbers};
 
 #[repr(C)]
@@ -184,22 +183,6 @@ pub fn of_walk(a: Answer) -> WalkNumbers
     }
 }
 
-fn of_fault(why: Fault) -> usize
-    ensures { λ r. ⌜ r ≡ faultNumber why ⌝ }
-{
-    match why {
-        Fault::Line => 10,
-        Fault::Headless => 11,
-        Fault::Second => 12,
-        Fault::Size => 13,
-        Fault::Vertex => 14,
-        Fault::Loop => 15,
-        Fault::Count => 16,
-        Fault::Room => 17,
-        Fault::Long => 18,
-    }
-}
-
 pub fn of_reading(a: Reading) -> ReadNumbers
     ensures { λ r. ⌜ r ≡ readNumbers a ⌝ }
 {
@@ -210,7 +193,7 @@ pub fn of_reading(a: Reading) -> ReadNumbers
             entries,
         },
         Reading::Refused(why, line) => ReadNumbers {
-            refusal: of_fault(why),
+            refusal: number(refusal_of(why)),
             line,
             entries: 0,
         },
