@@ -4,6 +4,7 @@ use clashes::Verdict;
 use lists::Reading;
 use lists::refusal_of;
 use refusals::Refusal;
+use refusals::line;
 use refusals::number;
 use sheets::Checked;
 use walk::Answer;
@@ -192,11 +193,14 @@ pub fn of_reading(a: Reading) -> ReadNumbers
             line: 0,
             entries,
         },
-        Reading::Refused(why, line) => ReadNumbers {
-            refusal: number(refusal_of(why)),
-            line,
-            entries: 0,
-        },
+        Reading::Refused(why, at) => {
+            let r = refusal_of(why);
+            ReadNumbers {
+                refusal: number(r),
+                line: line(r, at),
+                entries: 0,
+            }
+        }
     }
 }
 
