@@ -20,8 +20,8 @@ use Rattle.clashes.specs.Matrix.{matrix, Sound}
 use Rattle.clashes.proofs.MatrixLaws.{sound-valid}
 use Rattle.graphs.specs.Graph.{Graph, live, vertices, merge, separate, pair, missing, grouping, graph}
 use Rattle.graphs.specs.Good.{Live, Good, Merged, Parted}
-use Rattle.graphs.specs.Held.{Held, view, choiceOf}
-use Rattle.graphs.specs.Acts.{IsRoot, AtPair, Becomes, Linked, Renamed}
+use Rattle.graphs.specs.Held.{HeldAt, view, choiceOf}
+use Rattle.graphs.specs.Acts.{RootAt, PairAt, BecomesAt, Linked, Renamed}
 use Rattle.graphs.specs.declared.Node.{Node}
 use Rattle.graphs.specs.declared.Choice.{Choice}
 use Rattle.graphs.specs.declared.Choice.the-variants.{Complete, Split}
@@ -38,18 +38,19 @@ eqb-turn m k = go (ℕ-discrete m k)
     go (no q) = ne-eqb m k q ∙ sym (ne-eqb k m (λ e. q (sym e)))
 
 -- a node that holds a good graph, and whose live set is that graph's
-holds : (r : Node) (n : ℕ) (g : Graph) → length (r .rows) ≡ 64 → length (r .names) ≡ 64 → r .n ≡ n → n ≤ 64 → view r ≡ g → Good n g → ((x : ℕ) → has (r .live) x ≡ live n g x) → Held r
-holds r n g rows-long names-long e few is good lives = record {
+holds : (cap : ℕ) (r : Node) (n : ℕ) (g : Graph) → length (r .rows) ≡ cap → length (r .names) ≡ cap → r .n ≡ n → n ≤ cap → view r ≡ g → Good n g
+    → ((x : ℕ) → has (r .live) x ≡ live n g x) → HeldAt cap r
+holds cap r n g rows-long names-long e few is good lives = record {
   rows-long = rows-long;
   names-long = names-long;
-  few = subst (λ (k : ℕ). k ≤ 64) (sym e) few;
+  few = subst (λ (k : ℕ). k ≤ cap) (sym e) few;
   lives = λ x. lives x ∙ sym (ap₂ (λ (k : ℕ) (w : Graph). live k w x) e is);
   good = subst (λ (w : Graph). Good (r .n) w) (sym is) (subst (λ (k : ℕ). Good k g) (sym e) good);
 }
 
 -- ---- live vertices of a held node
 
-module _ (h : Node) (k : Held h) where
+module _ {cap : ℕ} (h : Node) (k : HeldAt cap h) where
   pub held-live : (x : ℕ) → T (has (h .live) x) → Live (h .n) (view h) x
   held-live x t = live-of (h .n) (view h) x (subst T (k .lives x) t)
 
@@ -63,25 +64,25 @@ module _ (h : Node) (k : Held h) where
   held-beyond x b t = let c = live-below x t in let z : ⊥ = omega arith in z
 
   -- the members of the live set are the graph's vertices
-  pub held-members : members (has (h .live)) 64 ≡ vertices (h .n) (view h)
-  held-members = members-narrow (has (h .live)) (h .n) 64 (k .few) held-beyond ∙ members-agree (h .n) (has (h .live)) (live (h .n) (view h)) (λ x b. k .lives x)
+  pub held-members : members (has (h .live)) cap ≡ vertices (h .n) (view h)
+  held-members = members-narrow (has (h .live)) (h .n) cap (k .few) held-beyond ∙ members-agree (h .n) (has (h .live)) (live (h .n) (view h)) (λ x b. k .lives x)
 
 -- ---- how many live vertices and groups a held node has
 
-module _ (h : Node) (k : Held h) where
-  pub held-count : size 64 (h .live) ≡ count (live (h .n) (view h)) (upto (h .n))
+module _ {cap : ℕ} (h : Node) (k : HeldAt cap h) where
+  pub held-count : size cap (h .live) ≡ count (live (h .n) (view h)) (upto (h .n))
   held-count =
-      count-narrow (has (h .live)) (h .n) 64 (k .few) (held-beyond h k)
+      count-narrow (has (h .live)) (h .n) cap (k .few) (held-beyond h k)
       ∙ count-agree (h .n) (has (h .live)) (live (h .n) (view h)) (λ x b. k .lives x)
 
-  pub held-vertices : size 64 (h .live) ≡ length (vertices (h .n) (view h))
+  pub held-vertices : size cap (h .live) ≡ length (vertices (h .n) (view h))
   held-vertices = held-count ∙ sym (members-count (live (h .n) (view h)) (h .n))
 
-  pub held-groups : groups 0 (grouping (h .n) (view h)) ≡ size 64 (h .live)
+  pub held-groups : groups 0 (grouping (h .n) (view h)) ≡ size cap (h .live)
   held-groups = grouping-groups (h .n) (view h) (k .good) ∙ sym held-vertices
 
   -- what the choice of the graph's pair says: the two may be merged or separated, or there is no pair
-  pub choice-pair : (c : Choice) (u v : ℕ) → c ≡ Split u v → choiceOf c ≡ pair (h .n) (view h) → AtPair h u v
+  pub choice-pair : (c : Choice) (u v : ℕ) → c ≡ Split u v → choiceOf c ≡ pair (h .n) (view h) → PairAt cap h u v
   choice-pair c u v s e = record { held = k; chosen = pair-chosen (h .n) (view h) u v (k .good) (sym e ∙ ap choiceOf s) }
 
   pub choice-none : (c : Choice) → c ≡ Complete → choiceOf c ≡ pair (h .n) (view h) → pair (h .n) (view h) ≡ none
@@ -89,34 +90,34 @@ module _ (h : Node) (k : Held h) where
 
 -- ---- what falls
 
-module _ (h r : Node) (u v : ℕ) (p : AtPair h u v) where
-  pub merged-size : Becomes h r (merge u v (view h)) → suc (size 64 (r .live)) ≡ size 64 (h .live)
+module _ {cap : ℕ} (h r : Node) (u v : ℕ) (p : PairAt cap h u v) where
+  pub merged-size : BecomesAt cap h r (merge u v (view h)) → suc (size cap (r .live)) ≡ size cap (h .live)
   merged-size b =
       ap suc (held-count r (b .held) ∙ ap₂ (λ (n : ℕ) (g : Graph). count (live n g) (upto n)) (b .same) (b .is))
       ∙ merged-count (h .n) (view h) (merge u v (view h)) u v (p .held .good) (p .chosen) (merge-is (h .n) (view h) u v (p .held .good) (p .chosen))
       ∙ sym (held-count h (p .held))
 
-  pub separated-size : Becomes h r (separate u v (view h)) → size 64 (r .live) ≡ size 64 (h .live)
+  pub separated-size : BecomesAt cap h r (separate u v (view h)) → size cap (r .live) ≡ size cap (h .live)
   separated-size b =
       held-count r (b .held) ∙ ap₂ (λ (n : ℕ) (g : Graph). count (live n g) (upto n)) (b .same) (b .is)
       ∙ parted-count (h .n) (view h) (separate u v (view h)) u v (p .held .good) (p .chosen) (separate-is (h .n) (view h) u v (p .held .good) (p .chosen))
       ∙ sym (held-count h (p .held))
 
-  pub merged-missing : Becomes h r (merge u v (view h)) → missing (r .n) (view r) < missing (h .n) (view h)
+  pub merged-missing : BecomesAt cap h r (merge u v (view h)) → missing (r .n) (view r) < missing (h .n) (view h)
   merged-missing b =
       subst (λ (m : ℕ). m < missing (h .n) (view h)) (sym (ap₂ (λ (n : ℕ) (g : Graph). missing n g) (b .same) (b .is)))
       (merged-fewer (h .n) (view h) (merge u v (view h)) u v (p .held .good) (p .chosen) (merge-is (h .n) (view h) u v (p .held .good) (p .chosen)))
 
-  pub separated-missing : Becomes h r (separate u v (view h)) → missing (r .n) (view r) < missing (h .n) (view h)
+  pub separated-missing : BecomesAt cap h r (separate u v (view h)) → missing (r .n) (view r) < missing (h .n) (view h)
   separated-missing b =
       subst (λ (m : ℕ). m < missing (h .n) (view h)) (sym (ap₂ (λ (n : ℕ) (g : Graph). missing n g) (b .same) (b .is)))
       (parted-fewer (h .n) (view h) (separate u v (view h)) u v (p .held .good) (p .chosen) (separate-is (h .n) (view h) u v (p .held .good) (p .chosen)))
 
 -- ---- the root
 
-module _ (rows : List ℕ) (r : Node) (s : Sound rows) (e : r .n ≡ length rows) (below : IsBelow (length rows) (r .live))
+module _ (cap : ℕ) (rows : List ℕ) (r : Node) (s : Sound rows) (few : length rows ≤ cap) (e : r .n ≡ length rows) (below : IsBelow (length rows) (r .live))
     (held : (x : ℕ) → getD (r .rows) x zero ≡ cond (ltb x (length rows)) (getD rows x zero) zero)
-    (names : (i : ℕ) → getD (r .names) i zero ≡ cond (ltb i (length rows)) i zero) (rows-long : length (r .rows) ≡ 64) (names-long : length (r .names) ≡ 64) where
+    (names : (i : ℕ) → getD (r .names) i zero ≡ cond (ltb i (length rows)) i zero) (rows-long : length (r .rows) ≡ cap) (names-long : length (r .names) ≡ cap) where
   root-adj : (x y : ℕ) → view r .adj x y ≡ graph (length rows) (matrix rows) .adj x y
   root-adj x y = ap₂ (λ (a b : Bool). a && (b && has (getD (r .rows) x zero) y)) (below x) (below y) ∙ ap (λ (m : ℕ). ltb x (length rows) && (ltb y (length rows) && has m y)) (held x) ∙ go (ltb x (length rows))
     where
@@ -124,8 +125,12 @@ module _ (rows : List ℕ) (r : Node) (s : Sound rows) (e : r .n ≡ length rows
       go true = refl
       go false = refl
 
-  pub root-is : IsRoot rows r
-  root-is = record { held = holds r (length rows) G rows-long names-long e (s .apart .inside .few) is (good-graph (length rows) (matrix rows) (sound-valid rows s)) lives; same = e; is = is }
+  pub root-is : RootAt cap rows r
+  root-is = record {
+    held = holds cap r (length rows) G rows-long names-long e few is (good-graph (length rows) (matrix rows) (sound-valid rows s)) lives;
+    same = e;
+    is = is;
+  }
     where
       G : Graph
       G = graph (length rows) (matrix rows)
@@ -158,7 +163,7 @@ link-next new u left w next row b t h i x y = go (ℕ-discrete x w)
     go (yes e) = rw (e, getD-set-same new w row zero b, i y, h w, T→true (has left w) t, eqb-same w) (at-w (has (getD new w zero) y) (eqb u y))
     go (no q) = rw (getD-set-other new w x row zero q, h x, ne-eqb w x (λ e. q (sym e)), and-true (has left x))
 
-module _ (h r : Node) (u v : ℕ) (p : AtPair h u v) (beside near : ℕ) (linked : List ℕ) (joined : ℕ)
+module _ {cap : ℕ} (h r : Node) (u v : ℕ) (p : PairAt cap h u v) (beside near : ℕ) (linked : List ℕ) (joined : ℕ)
     (same : r .n ≡ h .n) (is-beside : IsMeet (getD (h .rows) v zero) (h .live) beside)
     (is-near : IsLess beside (getD (h .rows) u zero) near) (is-linked : Linked (h .rows) u near linked)
     (is-joined : IsJoin (getD (h .rows) u zero) (getD (h .rows) v zero) joined) (is-rows : r .rows ≡ set linked u joined)
@@ -267,9 +272,9 @@ module _ (h r : Node) (u v : ℕ) (p : AtPair h u v) (beside near : ℕ) (linked
       go (no q) (no d) =
           rw (row-other x y q, ne-eqb x u q, ne-eqb y u d) (apart (eqb x v) (has (h .live) x) (eqb y v) (has (h .live) y) (has (row x) y) (has (row x) v) true true)
 
-  pub merged-is : Becomes h r (merge u v (view h))
+  pub merged-is : BecomesAt cap h r (merge u v (view h))
   merged-is = record {
-    held = holds r (h .n) (merge u v (view h))
+    held = holds cap r (h .n) (merge u v (view h))
         (ap length is-rows ∙ length-set linked u joined ∙ is-linked .long ∙ p .held .rows-long) (is-names .long ∙ p .held .names-long) same (p .held .few) is good lives;
     same = same;
     is = is;
@@ -302,7 +307,7 @@ module _ (h r : Node) (u v : ℕ) (p : AtPair h u v) (beside near : ℕ) (linked
 
 -- ---- separating
 
-module _ (h r : Node) (u v : ℕ) (p : AtPair h u v) (ru rv : ℕ) (same : r .n ≡ h .n)
+module _ {cap : ℕ} (h r : Node) (u v : ℕ) (p : PairAt cap h u v) (ru rv : ℕ) (same : r .n ≡ h .n)
     (is-ru : IsWith (getD (h .rows) u zero) v ru) (is-rv : IsWith (getD (h .rows) v zero) u rv) (is-rows : r .rows ≡ set (set (h .rows) u ru) v rv)
     (is-names : r .names ≡ h .names) (is-live : r .live ≡ h .live) where
   abbrev old : ℕ → ℕ
@@ -363,9 +368,9 @@ module _ (h r : Node) (u v : ℕ) (p : AtPair h u v) (ru rv : ℕ) (same : r .n 
       go (no q) (yes e) = rw (e, part-v y, lv, eqb-same v, ne-eqb v u (λ z. differ (sym z))) (inner (has (h .live) y) (has (old v) y) (eqb y u) at-u)
       go (no q) (no d) = rw (part-other x y q d, ne-eqb x u q, ne-eqb x v d) (or-false (has (h .live) x && (has (h .live) y && has (old x) y)))
 
-  pub separated-is : Becomes h r (separate u v (view h))
+  pub separated-is : BecomesAt cap h r (separate u v (view h))
   separated-is = record {
-    held = holds r (h .n) (separate u v (view h))
+    held = holds cap r (h .n) (separate u v (view h))
         (ap length is-rows ∙ length-set (set (h .rows) u ru) v rv ∙ length-set (h .rows) u ru ∙ p .held .rows-long) (ap length is-names ∙ p .held .names-long) same (p .held .few) is good lives;
     same = same;
     is = is;

@@ -33,24 +33,24 @@ getD-set l v a x b P f g = go (ℕ-discrete v x)
 
 -- ---- the clique's edges
 
-pub record Whole (c : ℕ) (near : List ℕ) (left : ℕ) : Type 0 where
-  pub wide : length near ≡ 64
+pub record Whole (cap c : ℕ) (near : List ℕ) (left : ℕ) : Type 0 where
+  pub wide : length near ≡ cap
   pub within : Within left c
   pub is : (x y : ℕ) → has (getD near x zero) y ≡ (done c left x && (has c y && not (eqb x y)))
 
-pub whole-start : (c : ℕ) → Whole c (replicate 64 0) c
-whole-start c = record {
-  wide = length-replicate 64 zero;
+pub whole-start : (cap c : ℕ) → Whole cap c (replicate cap 0) c
+whole-start cap c = record {
+  wide = length-replicate cap zero;
   within = λ x t. t;
-  is = λ x y. ap (λ (s : ℕ). has s y) (zeros x (decLt x 64)) ∙ has-none y ∙ sym (ap (λ (b : Bool). b && (has c y && not (eqb x y))) (done-none c x));
+  is = λ x y. ap (λ (s : ℕ). has s y) (zeros x (decLt x cap)) ∙ has-none y ∙ sym (ap (λ (b : Bool). b && (has c y && not (eqb x y))) (done-none c x));
 }
   where
-    zeros : (x : ℕ) → Dec (x < 64) → getD (replicate 64 0) x zero ≡ 0
-    zeros x (yes b) = getD-replicate 64 x 0 0 b
-    zeros x (no b) = List·getD-eq-default (replicate 64 0) 0 (let z : length (replicate 64 zero) ≤ x = omega (arith, length-replicate 64 zero) in z)
+    zeros : (x : ℕ) → Dec (x < cap) → getD (replicate cap 0) x zero ≡ 0
+    zeros x (yes b) = getD-replicate cap x 0 0 b
+    zeros x (no b) = List·getD-eq-default (replicate cap 0) 0 (let z : length (replicate cap zero) ≤ x = omega (arith, length-replicate cap zero) in z)
 
-pub whole-again : (c : ℕ) (near : List ℕ) (left v out left′ : ℕ) → Whole c near left → IsLowest 64 left v → IsWithout c v out → IsWithout left v left′
-    → Whole c (set near v out) left′
+pub whole-again : {cap : ℕ} (c : ℕ) (near : List ℕ) (left v out left′ : ℕ) → Whole cap c near left → IsLowest cap left v → IsWithout c v out → IsWithout left v left′
+    → Whole cap c (set near v out) left′
 whole-again c near left v out left′ i w q o = record {
   wide = length-set near v out ∙ i .wide;
   within = within-again c left v left′ (i .within) w o;
@@ -66,20 +66,20 @@ whole-again c near left v out left′ i w q o = record {
     or-true true = refl
     or-true false = refl
 
-pub whole-end : (c : ℕ) (near : List ℕ) → Whole c near 0 → partOf (record { set = c; near = near }) ≡ whole (has c)
+pub whole-end : {cap : ℕ} (c : ℕ) (near : List ℕ) → Whole cap c near 0 → partOf (record { set = c; near = near }) ≡ whole (has c)
 whole-end c near i =
     part-ext (partOf (record { set = c; near = near })) (whole (has c)) (λ x. refl)
     (λ x y. i .is x y ∙ ap (λ (q : ℕ → Bool). q x && (has c y && not (eqb x y))) (done-all c))
 
 -- ---- edges between u and each of ys
 
-pub record Tying (u ys : ℕ) (r₀ r : List ℕ) (left : ℕ) : Type 0 where
-  pub wide : length r ≡ 64
+pub record Tying (cap u ys : ℕ) (r₀ r : List ℕ) (left : ℕ) : Type 0 where
+  pub wide : length r ≡ cap
   pub within : Within left ys
   pub is : (x y : ℕ) → has (getD r x zero) y ≡ (has (getD r₀ x zero) y || (eqb y u && done ys left x))
 
-pub tying-start : (u ys : ℕ) (r : List ℕ) → length r ≡ 64 → Tying u ys r r ys
-tying-start u ys r l = record {
+pub tying-start : (cap : ℕ) (u ys : ℕ) (r : List ℕ) → length r ≡ cap → Tying cap u ys r r ys
+tying-start cap u ys r l = record {
   wide = l;
   within = λ x t. t;
   is = λ x y. sym (ap (λ (b : Bool). has (getD r x zero) y || (eqb y u && b)) (done-none ys x) ∙ nothing (has (getD r x zero) y) (eqb y u));
@@ -90,8 +90,8 @@ tying-start u ys r l = record {
     nothing false true = refl
     nothing false false = refl
 
-pub tying-again : (u ys : ℕ) (r₀ r : List ℕ) (left v s left′ : ℕ) → Tying u ys r₀ r left → IsLowest 64 left v → IsWith (getD r v zero) u s → IsWithout left v left′
-    → Tying u ys r₀ (set r v s) left′
+pub tying-again : {cap : ℕ} (u ys : ℕ) (r₀ r : List ℕ) (left v s left′ : ℕ) → Tying cap u ys r₀ r left → IsLowest cap left v → IsWith (getD r v zero) u s → IsWithout left v left′
+    → Tying cap u ys r₀ (set r v s) left′
 tying-again u ys r₀ r left v s left′ i w q o = record {
   wide = length-set r v s ∙ i .wide;
   within = within-again ys left v left′ (i .within) w o;
@@ -111,7 +111,7 @@ tying-again u ys r₀ r left v s left′ i w q o = record {
     here false true false = refl
     here false false c = refl
 
-laid : (near : List ℕ) (u ys s : ℕ) (r : List ℕ) → u < length near → IsJoin (getD near u zero) ys s → Tying u ys (set near u s) r 0
+laid : {cap : ℕ} (near : List ℕ) (u ys s : ℕ) (r : List ℕ) → u < length near → IsJoin (getD near u zero) ys s → Tying cap u ys (set near u s) r 0
     → (x y : ℕ) → has (getD r x zero) y ≡ (has (getD near x zero) y || (eqb x u && has ys y || eqb y u && has ys x))
 laid near u ys s r b j i x y =
     i .is x y
@@ -126,6 +126,6 @@ laid near u ys s r b j i x y =
     assoc true b c = refl
     assoc false b c = refl
 
-pub tying-end : (near : List ℕ) (u ys s : ℕ) (r : List ℕ) → length near ≡ 64 → u < 64 → IsJoin (getD near u zero) ys s → Tying u ys (set near u s) r 0
+pub tying-end : (cap : ℕ) (near : List ℕ) (u ys s : ℕ) (r : List ℕ) → length near ≡ cap → u < cap → IsJoin (getD near u zero) ys s → Tying cap u ys (set near u s) r 0
     → Ties near u ys r
-tying-end near u ys s r l b j i = record { long = i .wide ∙ sym l; is = laid near u ys s r (omega arith) j i }
+tying-end cap near u ys s r l b j i = record { long = i .wide ∙ sym l; is = laid near u ys s r (omega arith) j i }

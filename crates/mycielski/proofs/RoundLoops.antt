@@ -12,7 +12,7 @@ use Rattle.sets.proofs.TestLaws.{and-l, and-r, and-t, T-ext, all-get, any-get}
 use Rattle.sets.proofs.MemberLaws.{lowest-is}
 use Rattle.sets.proofs.SetLaws.{has-none}
 use Rattle.graphs.specs.Graph.{Graph, live}
-use Rattle.graphs.specs.Held.{view, Held}
+use Rattle.graphs.specs.Held.{view, HeldAt}
 use Rattle.graphs.specs.declared.Node.{Node}
 use Rattle.graphs.proofs.LoopLaws.{or-false}
 use Rattle.cliques.specs.Growth.{Within}
@@ -25,7 +25,7 @@ use Rattle.mycielski.proofs.SetLoops.{live-below}
 use Rattle.mycielski.proofs.EdgeLoops.{part-ext}
 use Rattle.mycielski.proofs.WitnessLoops.{serving-live}
 
-module _ (h : Node) (k : Held h) (p : Sub) (ins : Inside (h .live) p) where
+module _ {cap : ℕ} (h : Node) (k : HeldAt cap h) (p : Sub) (ins : Inside (h .live) p) where
   abbrev g : Graph
   g = view h
 
@@ -68,20 +68,20 @@ module _ (h : Node) (k : Held h) (p : Sub) (ins : Inside (h .live) p) where
           subst T (has-none (r .0)) (subst (λ c. T (has c (r .0))) z (subst T (sym (offers-is (r .0))) (r .2)))
 
       -- the lowest is the chosen one
-      pub chosen-is : (u : ℕ) → IsLowest 64 m u → chosen n g H w v ≡ u
+      pub chosen-is : (u : ℕ) → IsLowest cap m u → chosen n g H w v ≡ u
       chosen-is u l =
           ap (λ (o : Option ℕ). Option·getD o zero)
           (lowest-is (offers n g H w v) n u (live-below h k u (serving-live h k (p .set) (H .edge) (ins .verts) v s e u (and-l (has s u) (has (getD (h .rows) w zero) u) (subst T (q u) (l .member)))))
           (subst T (offers-is u) (l .member)) (λ j b t. l .least j b (subst T (sym (offers-is j)) t)))
 
     pub record Extending (next : Sub) (left : ℕ) : Type 0 where
-      pub wide : length (next .near) ≡ 64
+      pub wide : length (next .near) ≡ cap
       pub within : Within left (p .set)
       pub verts : (x : ℕ) → has (next .set) x ≡ (has (p .set) x || (eqb x w || any n (λ v. done (p .set) left v && eqb x (chosen n g H w v))))
       pub edges : (x y : ℕ)
           → has (getD (next .near) x zero) y ≡ (has (getD (p .near) x zero) y || any n (λ v. done (p .set) left v && (tied n g H w v x y || tied n g H w v y x)))
 
-    pub extending-start : (s : ℕ) → length (p .near) ≡ 64 → IsWith (p .set) w s → Extending (record { set = s; near = p .near }) (p .set)
+    pub extending-start : (s : ℕ) → length (p .near) ≡ cap → IsWith (p .set) w s → Extending (record { set = s; near = p .near }) (p .set)
     extending-start s l q = record {
       wide = l;
       within = λ x t. t;
@@ -99,8 +99,8 @@ module _ (h : Node) (k : Held h) (p : Sub) (ins : Inside (h .live) p) where
         (λ x y. i .edges x y ∙ ap (λ (q : ℕ → Bool). has (getD (p .near) x zero) y || any n (λ v. q v && (tied n g H w v x y || tied n g H w v y x))) (done-all (p .set)))
 
     -- one vertex of H more
-    pub extending-again : (next : Sub) (left v s m u ys set′ : ℕ) (near′ : List ℕ) (left′ : ℕ) → Extending next left → IsLowest 64 left v
-        → ((x : ℕ) → has s x ≡ nearAll n g (has (getD (p .near) v zero)) x) → IsMeet s (getD (h .rows) w zero) m → IsLowest 64 m u
+    pub extending-again : (next : Sub) (left v s m u ys set′ : ℕ) (near′ : List ℕ) (left′ : ℕ) → Extending next left → IsLowest cap left v
+        → ((x : ℕ) → has s x ≡ nearAll n g (has (getD (p .near) v zero)) x) → IsMeet s (getD (h .rows) w zero) m → IsLowest cap m u
         → IsWith (getD (p .near) v zero) w ys → IsWith (next .set) u set′ → Ties (next .near) u ys near′ → IsWithout left v left′
         → Extending (record { set = set′; near = near′ }) left′
     extending-again next left v s m u ys set′ near′ left′ i l e q lu wy a t o = record {

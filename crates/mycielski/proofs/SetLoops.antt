@@ -9,7 +9,7 @@ use Rattle.sets.specs.Set.{has, IsWithout, IsMeet, IsJoin, IsLowest}
 use Rattle.sets.proofs.TestLaws.{and-true}
 use Rattle.sets.proofs.SetLaws.{has-none}
 use Rattle.graphs.specs.Graph.{Graph, live}
-use Rattle.graphs.specs.Held.{view, Held}
+use Rattle.graphs.specs.Held.{view, HeldAt}
 use Rattle.graphs.specs.declared.Node.{Node}
 use Rattle.graphs.proofs.GraphLaws.{live-of}
 use Rattle.cliques.specs.Growth.{Within}
@@ -18,7 +18,7 @@ use Rattle.mycielski.specs.Rounds.{nearAll}
 use Rattle.mycielski.specs.Words.{reachable}
 use Rattle.mycielski.proofs.DoneLaws.{done, done-none, done-all, within-again, done-more, all-more, any-more, all-none, any-none}
 
-module _ (h : Node) (k : Held h) where
+module _ {cap : ℕ} (h : Node) (k : HeldAt cap h) where
   abbrev g : Graph
   g = view h
 
@@ -43,7 +43,7 @@ module _ (h : Node) (k : Held h) where
   pub serving-end : (near s : ℕ) → Serving near s 0 → (x : ℕ) → has s x ≡ nearAll n g (has near) x
   serving-end near s i x = i .is x ∙ ap (λ (q : ℕ → Bool). nearAll n g q x) (done-all near)
 
-  pub serving-again : (near s left v s′ left′ : ℕ) → Within near (h .live) → Serving near s left → IsLowest 64 left v → IsMeet s (getD (h .rows) v zero) s′
+  pub serving-again : (near s left v s′ left′ : ℕ) → Within near (h .live) → Serving near s left → IsLowest cap left v → IsMeet s (getD (h .rows) v zero) s′
       → IsWithout left v left′ → Serving near s′ left′
   serving-again near s left v s′ left′ l i w m o = record {
     within = within-again near left v left′ (i .within) w o;
@@ -85,7 +85,7 @@ module _ (h : Node) (k : Held h) where
   pub reached-end : (s r : ℕ) → Reached s r 0 → (w : ℕ) → (has (h .live) w && has r w) ≡ reachable n g s w
   reached-end s r i w = i .is w ∙ ap (λ (q : ℕ → Bool). any n (λ x. q x && g .adj w x)) (done-all s)
 
-  pub reached-again : (s r left x r′ left′ : ℕ) → Within s (h .live) → Reached s r left → IsLowest 64 left x → IsJoin r (getD (h .rows) x zero) r′
+  pub reached-again : (s r left x r′ left′ : ℕ) → Within s (h .live) → Reached s r left → IsLowest cap left x → IsJoin r (getD (h .rows) x zero) r′
       → IsWithout left x left′ → Reached s r′ left′
   reached-again s r left x r′ left′ l i w j o = record {
     within = within-again s left x left′ (i .within) w o;

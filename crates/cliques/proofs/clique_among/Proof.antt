@@ -22,7 +22,7 @@ abbrev μ-loop : tie.MeasureT-loop
 μ-loop live rows enough free₀ best₀ most₀ free best most = size 64 free
 
 loop-holds : tie.Need-loop-holds Inv-loop μ-loop
-loop-holds c = (sym size-none, λ m k. hunt-start (holding (c .args .live) (c .args .rows .now) m) k)
+loop-holds c = (sym (size-none 64), λ m k. hunt-start (holding (c .args .live) (c .args .rows .now) m) k)
 
 lowest-requires : tie.Need-lowest-requires Inv-loop μ-loop
 lowest-requires c κs = search needs

@@ -52,7 +52,7 @@ loop-again c =
     let m = c .before .before .before .meet in
     let k = c .before .before .size in
     over-next (lead (shared (a .rows .now) (a .near)) (a .u)) (l .best) _ (l .left) (v .result) (r .result) (v .ensures) (r .ensures (v .result) (v .ensures))
-    (lead-taken (a .rows .now) (a .near) (a .u) (v .result) (m .result) (k .result) (l .best) (m .ensures) (k .ensures) (c .if1 .taken))
+    (lead-taken 64 (a .rows .now) (a .near) (a .u) (v .result) (m .result) (k .result) (l .best) (m .ensures) (k .ensures) (c .if1 .taken))
     ∙ l .inv
 
 loop-less-2 : tie.Need-loop-less-2 Inv-loop μ-loop
@@ -67,13 +67,13 @@ loop-again-2 c =
     let m = c .before .before .before .meet in
     let k = c .before .before .size in
     over-next (lead (shared (a .rows .now) (a .near)) (a .u)) (l .best) _ (l .left) (v .result) (r .result) (v .ensures) (r .ensures (v .result) (v .ensures))
-    (lead-kept (a .rows .now) (a .near) (a .u) (v .result) (m .result) (k .result) (l .best) (m .ensures) (k .ensures) (c .if1 .left))
+    (lead-kept 64 (a .rows .now) (a .near) (a .u) (v .result) (m .result) (k .result) (l .best) (m .ensures) (k .ensures) (c .if1 .left))
     ∙ l .inv
 
 returns : tie.Need-returns Inv-loop μ-loop
 returns c =
     let a = c .before .before .args in
-    sym (over-none (lead (shared (a .rows .now) (a .near)) (a .u)) (c .before .loop .best) (c .before .loop .left) (c .loop-test .left)) ∙ c .before .loop .inv
+    sym (over-none 64 (lead (shared (a .rows .now) (a .near)) (a .u)) (c .before .loop .best) (c .before .loop .left) (c .loop-test .left)) ∙ c .before .loop .inv
 
 pub by-pairs-spec : {M : Type 1} → statement M
 by-pairs-spec =

@@ -11,7 +11,7 @@ use Rattle.graphs.proofs.led.Tie as tie
 returns : tie.Need-returns
 returns c =
     let a = c .before .args in
-    sym (over-none (lead (shared (a .rows .now) (a .near)) (a .u)) (a .best) (a .apart) (c .if1 .taken))
+    sym (over-none 64 (lead (shared (a .rows .now) (a .near)) (a .u)) (a .best) (a .apart) (c .if1 .taken))
 
 size-requires : tie.Need-size-requires
 size-requires c κs = search needs

@@ -1,21 +1,16 @@
 -- `mycielski::climb` meets its contract. The loop's invariant: H and the bound so far are those of a round, and the rounds that are left give the
 -- whole's bound. The measure: what the bound lacks of what is enough. Assumes nothing.
-use mathlib.Core.Path.{_≡_, sym, ap, _∙_, subst}
-use mathlib.Core.List.{List}
-use Prim.Native.Nat.{ℕ, suc, _+_, _-_, _<_}
+use mathlib.Core.Path.{_≡_, subst}
+use Prim.Native.Nat.{suc, _+_, _-_}
 use native.Mathlib.Nat.{le-of-eq}
 use native.Mathlib.Numerals.{add-one}
 use native.Mathlib.Omega.{arith}
-use lib.Dec.{T}
-use Rattle.graphs.specs.Held.{view, Held, holding}
+use Rattle.graphs.specs.Held.{Held, holding}
 use Rattle.graphs.specs.declared.Node.{Node}
-use Rattle.sets.specs.Set.{has, size, IsLowest}
-use Rattle.cliques.specs.Clique.{clique}
-use Rattle.cliques.specs.Growth.{IsSetOf}
-use Rattle.mycielski.specs.Rounds.{Part, whole, nearAll, ofW, extend}
-use Rattle.mycielski.specs.Words.{partOf, Inside, Serves, ServesAll}
-use Rattle.mycielski.specs.declared.Sub.{Sub}
-use Rattle.mycielski.proofs.ClimbLaws.{Climb, clique-live, climb-start, climb-inside, climb-le, climb-full, climb-none, climb-more, climb-w, climb-next}
+use Rattle.sets.specs.Set.{size}
+use Rattle.mycielski.specs.Rounds.{whole}
+use Rattle.mycielski.specs.Words.{partOf}
+use Rattle.mycielski.proofs.ClimbLaws.{Climb, clique-live, climb-inside, climb-le, climb-full, climb-none, climb-more, climb-w, climb-next, first-inside, first-fit, first-w, first-next}
 use borrow.Author.Needs.{needs}
 use Rattle.mycielski.proofs.climb.Statement.{statement}
 use Rattle.mycielski.proofs.climb.Tie as tie
@@ -47,30 +42,6 @@ whole-requires c κs = search needs
 lowest-requires : tie.Need-lowest-requires Inv-loop μ-loop
 lowest-requires c κs = c .before .before .before .before .pre .1 .1 .1 .0
 
--- the first round, from the clique
-module _ (live ws : ℕ) (rows : List ℕ) (c : ℕ) (p : Sub) (e : partOf p ≡ whole (has c)) (m : Node) (k : Held (holding live rows m))
-    (q : IsSetOf (clique (holding live rows m .n) (view (holding live rows m))) c) where
-  abbrev h : Node
-  h = holding live rows m
-
-  first : Climb h k (whole (has c)) (size 64 c)
-  first = climb-start h k c q
-
-  first-inside : Inside live p
-  first-inside = climb-inside h k p (size 64 c) (subst (λ H. Climb h k H (size 64 c)) (sym e) first)
-
-  first-fit : (fit : List ℕ) → ServesAll (h .n) (view h) c fit → Serves (h .n) (view h) p fit
-  first-fit fit f v t x =
-      f v (subst T (ap (λ (H : Part). H .vert v) e) t) x ∙ sym (ap (λ (H : Part). nearAll (h .n) (view h) (H .edge v) x) e)
-
-  module _ (l : size 64 c < size 64 live) (s : (x : ℕ) → has ws x ≡ ofW (h .n) (view h) (whole (has c)) x) (w : ℕ) (v : IsLowest 64 ws w) where
-    first-w : T (ofW (h .n) (view h) (partOf p) w)
-    first-w = subst (λ H. T (ofW (h .n) (view h) H w)) (sym e) (climb-w h k c (whole (has c) .edge) (size 64 c) first l ws s w v)
-
-    first-next : (r : Sub) → partOf r ≡ extend (h .n) (view h) (partOf p) w → Climb h k (partOf r) (suc (size 64 c))
-    first-next r f =
-        climb-next h k c (whole (has c) .edge) (size 64 c) first l ws s w v (partOf r) (f ∙ ap (λ (H : Part). extend (h .n) (view h) H w) e)
-
 extended-requires : tie.Need-extended-requires Inv-loop μ-loop
 extended-requires c κs =
     let a = c .before .before .before .before .before .before in
@@ -78,15 +49,15 @@ extended-requires c κs =
     let q = a .pre .0 in (
       q,
       (
-        first-inside (a .args .live) (a .args .ws) (a .args .rows .now) (a .args .c) (p .result) (p .ensures) (q .0) (q .1) (a .pre .1 .0 (q .0) (q .1)),
+        first-inside (holding (a .args .live) (a .args .rows .now) (q .0)) (q .1) (a .args .c) (p .result) (p .ensures) (a .pre .1 .0 (q .0) (q .1)),
         (
           c .before .lowest .ensures .below,
           (
             λ m k.
-                first-w (a .args .live) (a .args .ws) (a .args .rows .now) (a .args .c) (p .result) (p .ensures) m k (a .pre .1 .0 m k) (a .pre .1 .1 .1 .1)
+                first-w (holding (a .args .live) (a .args .rows .now) m) k (a .args .c) (p .result) (p .ensures) (a .pre .1 .0 m k) (a .pre .1 .1 .1 .1) (a .args .ws)
                 (a .pre .1 .1 .0 m k) (c .before .lowest .result) (c .before .lowest .ensures),
             λ m k.
-                first-fit (a .args .live) (a .args .ws) (a .args .rows .now) (a .args .c) (p .result) (p .ensures) m k (a .pre .1 .0 m k)
+                first-fit (holding (a .args .live) (a .args .rows .now) m) k (a .args .c) (p .result) (p .ensures) (a .pre .1 .0 m k)
                 (c .before .before .before .first-servings .result) (c .before .before .before .first-servings .ensures m k),
           ),
         ),
@@ -102,7 +73,7 @@ loop-holds c =
     λ m k.
     let e : suc (size 64 (a .args .c)) ≡ b .result + 1 = omega (arith, b .ensures) in
     subst (λ b. Climb (holding (a .args .live) (a .args .rows .now) m) k (partOf (c .extended .result)) b) e
-    (first-next (a .args .live) (a .args .ws) (a .args .rows .now) (a .args .c) (p .result) (p .ensures) m k (a .pre .1 .0 m k) (a .pre .1 .1 .1 .1)
+    (first-next (holding (a .args .live) (a .args .rows .now) m) k (a .args .c) (p .result) (p .ensures) (a .pre .1 .0 m k) (a .pre .1 .1 .1 .1) (a .args .ws)
     (a .pre .1 .1 .0 m k) (w .result) (w .ensures) (c .extended .result) (c .extended .ensures m k))
 
 size-requires-3 : tie.Need-size-requires-3 Inv-loop μ-loop

@@ -8,13 +8,13 @@ use Rattle.mycielski.proofs.lacking.Statement.{statement}
 use Rattle.mycielski.proofs.lacking.Tie as tie
 
 abbrev Inv-loop : tie.InvT-loop
-Inv-loop live rows c once₀ twice₀ left₀ once twice left = Lacking live rows c once twice left
+Inv-loop live rows c once₀ twice₀ left₀ once twice left = Lacking 64 live rows c once twice left
 
 abbrev μ-loop : tie.MeasureT-loop
 μ-loop live rows c once₀ twice₀ left₀ once twice left = size 64 left
 
 loop-holds : tie.Need-loop-holds Inv-loop μ-loop
-loop-holds c = lacking-start (c .args .live) (c .args .rows .now) (c .args .c)
+loop-holds c = lacking-start 64 (c .args .live) (c .args .rows .now) (c .args .c)
 
 lowest-requires : tie.Need-lowest-requires Inv-loop μ-loop
 lowest-requires c κs = search needs
@@ -47,15 +47,15 @@ loop-again : tie.Need-loop-again Inv-loop μ-loop
 loop-again c =
     let a = c .before .before .before .before .before .before .before .before .before .args in
     let b = c .before .before .before .before .before .before .before .before .loop in
-    lacking-again (a .live) (a .rows .now) (a .c) (b .once) (b .twice) (b .left) (c .before .before .before .before .before .before .lowest .result) (c .before .before .before .before .less .result) (c .before .before .before .meet .result) (c .before .before .join .result)
+    lacking-again 64 (a .live) (a .rows .now) (a .c) (b .once) (b .twice) (b .left) (c .before .before .before .before .before .before .lowest .result) (c .before .before .before .before .less .result) (c .before .before .before .meet .result) (c .before .before .join .result)
     (c .before .join2 .result) (c .rest .result) (b .inv) (c .before .before .before .before .before .before .lowest .ensures) (c .before .before .before .before .less .ensures) (c .before .before .before .meet .ensures) (c .before .before .join .ensures) (c .before .join2 .ensures) (c .rest .ensures (c .before .before .before .before .before .before .lowest .result) (c .before .before .before .before .before .before .lowest .ensures))
 
 returns : tie.Need-returns Inv-loop μ-loop
 returns c =
     let a = c .before .before .args in
     let b = c .before .loop in
-    lacking-end (a .live) (a .rows .now) (a .c) (b .once) (b .twice)
-    (subst (λ l. Lacking (a .live) (a .rows .now) (a .c) (b .once) (b .twice) l) (c .loop-test .left) (b .inv))
+    lacking-end 64 (a .live) (a .rows .now) (a .c) (b .once) (b .twice)
+    (subst (λ l. Lacking 64 (a .live) (a .rows .now) (a .c) (b .once) (b .twice) l) (c .loop-test .left) (b .inv))
 
 pub lacking-spec : {M : Type 1} → statement M
 lacking-spec =

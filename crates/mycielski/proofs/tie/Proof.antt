@@ -9,7 +9,7 @@ use Rattle.mycielski.proofs.tie.Statement.{statement}
 use Rattle.mycielski.proofs.tie.Tie as tie
 
 abbrev Inv-loop : tie.InvT-loop
-Inv-loop near₀ u ys row left₀ near left = Tying u ys near₀ near left
+Inv-loop near₀ u ys row left₀ near left = Tying 64 u ys near₀ near left
 
 abbrev μ-loop : tie.MeasureT-loop
 μ-loop near₀ u ys row left₀ near left = size 64 left
@@ -32,7 +32,7 @@ element-write-near c = search needs
 loop-holds : tie.Need-loop-holds Inv-loop μ-loop
 loop-holds c =
     let a = c .before .before in
-    tying-start (a .args .u) (a .args .ys) (set (a .args .near .now) (a .args .u) (c .join .result))
+    tying-start 64 (a .args .u) (a .args .ys) (set (a .args .near .now) (a .args .u) (c .join .result))
     (length-set (a .args .near .now) (a .args .u) (c .join .result) ∙ a .pre .0)
 
 lowest-requires : tie.Need-lowest-requires Inv-loop μ-loop
@@ -71,8 +71,8 @@ returns c =
     let a = c .before .before .before .before in
     let b = c .before .loop in
     let j = c .before .before .join in
-    tying-end (a .args .near .now) (a .args .u) (a .args .ys) (j .result) (b .near) (a .pre .0) (a .pre .1) (j .ensures)
-    (subst (λ l. Tying (a .args .u) (a .args .ys) (set (a .args .near .now) (a .args .u) (j .result)) (b .near) l) (c .loop-test .left) (b .inv))
+    tying-end 64 (a .args .near .now) (a .args .u) (a .args .ys) (j .result) (b .near) (a .pre .0) (a .pre .1) (j .ensures)
+    (subst (λ l. Tying 64 (a .args .u) (a .args .ys) (set (a .args .near .now) (a .args .u) (j .result)) (b .near) l) (c .loop-test .left) (b .inv))
 
 pub tie-spec : {M : Type 1} → statement M
 tie-spec =

@@ -8,13 +8,13 @@ use Rattle.mycielski.proofs.whole.Statement.{statement}
 use Rattle.mycielski.proofs.whole.Tie as tie
 
 abbrev Inv-loop : tie.InvT-loop
-Inv-loop c near₀ left₀ near left = Whole c near left
+Inv-loop c near₀ left₀ near left = Whole 64 c near left
 
 abbrev μ-loop : tie.MeasureT-loop
 μ-loop c near₀ left₀ near left = size 64 left
 
 loop-holds : tie.Need-loop-holds Inv-loop μ-loop
-loop-holds c = whole-start (c .args .c)
+loop-holds c = whole-start 64 (c .args .c)
 
 lowest-requires : tie.Need-lowest-requires Inv-loop μ-loop
 lowest-requires c κs = search needs
@@ -45,7 +45,7 @@ loop-again c =
 returns : tie.Need-returns Inv-loop μ-loop
 returns c =
     let a = c .before .before in
-    whole-end (a .args .c) (c .before .loop .near) (subst (λ l. Whole (a .args .c) (c .before .loop .near) l) (c .loop-test .left) (c .before .loop .inv))
+    whole-end (a .args .c) (c .before .loop .near) (subst (λ l. Whole 64 (a .args .c) (c .before .loop .near) l) (c .loop-test .left) (c .before .loop .inv))
 
 pub whole-spec : {M : Type 1} → statement M
 whole-spec =
