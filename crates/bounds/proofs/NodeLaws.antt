@@ -36,15 +36,15 @@ module _ {cap : ℕ} (h : Node) (k : HeldAt cap h) where
   most : mycielskian n g ≤ size cap (h .live)
   most = le-trans (mycielskian-vertices n g (k .good)) (le-of-eq (sym (held-vertices h k)))
 
-  -- what could only be reached above the limit is the whole
-  pub climbs-whole : {enough r : ℕ} → Climbs (Rounds.mycielskian n g) enough r → cap < enough → r ≡ mycielskian n g
-  climbs-whole c l = c .whole (omega (arith, c .most, mycielskian-is n g, most, size-le cap (h .live))) ∙ sym (mycielskian-is n g)
+  -- what could only be reached above the limit is the bound itself
+  pub climbs-exact : {enough r : ℕ} → Climbs (Rounds.mycielskian n g) enough r → cap < enough → r ≡ mycielskian n g
+  climbs-exact c l = c .exact (omega (arith, c .most, mycielskian-is n g, most, size-le cap (h .live))) ∙ sym (mycielskian-is n g)
 
   pub climbs-reach : (best r : ℕ) → Climbs (Rounds.mycielskian n g) best r → leb best r ≡ leb best (mycielskian n g)
   climbs-reach best r c = go (decLt r best)
     where
       go : Dec (r < best) → leb best r ≡ leb best (mycielskian n g)
-      go (yes l) = ap (leb best) (c .whole l ∙ sym (mycielskian-is n g))
+      go (yes l) = ap (leb best) (c .exact l ∙ sym (mycielskian-is n g))
       go (no l) = le-leb best r (omega arith) ∙ sym (le-leb best (mycielskian n g) (omega (arith, c .most, mycielskian-is n g)))
 
   pub few-reach : (best : ℕ) → size cap (h .live) < best → false ≡ leb best (mycielskian n g)

@@ -22,7 +22,7 @@ use Rattle.graphs.specs.Held.{view, HeldAt}
 use Rattle.graphs.specs.declared.Node.{Node}
 use Rattle.graphs.proofs.GraphLaws.{live-of, of-live, vertices-live}
 use Rattle.cliques.specs.Clique.{isIn, admits, clique, IsClique}
-use Rattle.cliques.specs.Growth.{IsSetOf, elements, scan, Grown, GrowsAt, Within, after, first}
+use Rattle.cliques.specs.Growth.{IsSetOf, elements, scan, Grown, GrowsAt, Within, after, opening}
 use Rattle.cliques.specs.declared.Growth.{Growth}
 use Rattle.cliques.proofs.ListLaws.{of-in, members-at, larger, larger-le}
 use Rattle.cliques.proofs.ScanLaws.{scan-keeps, scan-from, scan-skip, scan-clique, alone-clique, empty-clique}
@@ -121,10 +121,10 @@ module _ {cap : ℕ} (h : Node) (k : HeldAt cap h) where
   near-live l c e x t = subst T (sym (k .lives x)) (and-l (live n g x) (admits g l x) (subst T (e .near x) t))
 
   -- one turn
-  module _ (free best s free′ : ℕ) (c : Growth) (i : Hunt free best) (w : IsLowest cap free s) (gc : Grown n g (first n g s) c)
+  module _ (free best s free′ : ℕ) (c : Growth) (i : Hunt free best) (w : IsLowest cap free s) (gc : Grown n g (opening n g s) c)
       (wf : IsLess free (c .set) free′) where
     abbrev own : List ℕ
-    own = first n g s
+    own = opening n g s
 
     live-s : T (live n g s)
     live-s = subst T (k .lives s) (i .free-live s (w .member))

@@ -1,13 +1,13 @@
 -- How the clique is grown in words, a clique at a time.
 --
 --   IsSetOf c w       : the set w has c's members
---   elements cap w  : the members of the set w below cap, rising
+--   elements cap w    : the members of the set w below cap, rising
 --   scan g c vs       : c grown along vs: each vertex in turn is added if it is admitted
 --   Grown n g c k     : k has c's members, and the live vertices that c admits
 --   GrowsAt cap n g left c r : r is c grown by the members of left below cap, lowest first
 --   Within s t        : each member of s is one of t
 --   after s p x       : x passes p and comes after s
---   first n g s       : the clique that s opens: it grows along the live vertices after s
+--   opening n g s     : the clique that s opens: it grows along the live vertices after s
 --   ReachesAt cap n g e w : w is the set of the clique, or of another as large as e asks, and no larger than it
 --   Grows, Reaches    : the same at 64
 --
@@ -50,8 +50,8 @@ Within s t = (x : ℕ) → T (has s x) → T (has t x)
 abbrev pub after : ℕ → (ℕ → Bool) → ℕ → Bool
 after s p x = p x && ltb s x
 
-abbrev pub first : ℕ → Graph → ℕ → List ℕ
-first n g s = scan g (s ∷ []) (members (after s (live n g)) n)
+abbrev pub opening : ℕ → Graph → ℕ → List ℕ
+opening n g s = scan g (s ∷ []) (members (after s (live n g)) n)
 
 abbrev pub ReachesAt : ℕ → ℕ → Graph → ℕ → ℕ → Type 0
 ReachesAt cap n g e w = IsSetOf (clique n g) w ⊎ ((e ≤ size cap w) × (size cap w ≤ length (clique n g)))

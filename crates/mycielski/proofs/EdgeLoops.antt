@@ -15,7 +15,7 @@ use Rattle.sets.proofs.SetLaws.{has-none}
 use Rattle.graphs.proofs.LoopLaws.{or-false}
 use Rattle.cliques.specs.Growth.{Within}
 use Rattle.cliques.proofs.WordLaws.{eqb-turn}
-use Rattle.mycielski.specs.Rounds.{Part, whole}
+use Rattle.mycielski.specs.Rounds.{Part, everyEdge}
 use Rattle.mycielski.specs.Words.{partOf, Ties}
 use Rattle.mycielski.proofs.DoneLaws.{done, done-none, done-all, within-again, done-more}
 
@@ -33,13 +33,13 @@ getD-set l v a x b P f g = go (ℕ-discrete v x)
 
 -- ---- the clique's edges
 
-pub record Whole (cap c : ℕ) (near : List ℕ) (left : ℕ) : Type 0 where
+pub record Joining (cap c : ℕ) (near : List ℕ) (left : ℕ) : Type 0 where
   pub wide : length near ≡ cap
   pub within : Within left c
   pub is : (x y : ℕ) → has (getD near x zero) y ≡ (done c left x && (has c y && not (eqb x y)))
 
-pub whole-start : (cap c : ℕ) → Whole cap c (replicate cap 0) c
-whole-start cap c = record {
+pub joining-start : (cap c : ℕ) → Joining cap c (replicate cap 0) c
+joining-start cap c = record {
   wide = length-replicate cap zero;
   within = λ x t. t;
   is = λ x y. ap (λ (s : ℕ). has s y) (zeros x (decLt x cap)) ∙ has-none y ∙ sym (ap (λ (b : Bool). b && (has c y && not (eqb x y))) (done-none c x));
@@ -49,9 +49,9 @@ whole-start cap c = record {
     zeros x (yes b) = getD-replicate cap x 0 0 b
     zeros x (no b) = List·getD-eq-default (replicate cap 0) 0 (let z : length (replicate cap zero) ≤ x = omega (arith, length-replicate cap zero) in z)
 
-pub whole-again : {cap : ℕ} (c : ℕ) (near : List ℕ) (left v out left′ : ℕ) → Whole cap c near left → IsLowest cap left v → IsWithout c v out → IsWithout left v left′
-    → Whole cap c (set near v out) left′
-whole-again c near left v out left′ i w q o = record {
+pub joining-again : {cap : ℕ} (c : ℕ) (near : List ℕ) (left v out left′ : ℕ) → Joining cap c near left → IsLowest cap left v → IsWithout c v out → IsWithout left v left′
+    → Joining cap c (set near v out) left′
+joining-again c near left v out left′ i w q o = record {
   wide = length-set near v out ∙ i .wide;
   within = within-again c left v left′ (i .within) w o;
   is = λ x y.
@@ -66,9 +66,9 @@ whole-again c near left v out left′ i w q o = record {
     or-true true = refl
     or-true false = refl
 
-pub whole-end : {cap : ℕ} (c : ℕ) (near : List ℕ) → Whole cap c near 0 → partOf (record { set = c; near = near }) ≡ whole (has c)
-whole-end c near i =
-    part-ext (partOf (record { set = c; near = near })) (whole (has c)) (λ x. refl)
+pub joining-end : {cap : ℕ} (c : ℕ) (near : List ℕ) → Joining cap c near 0 → partOf (record { set = c; near = near }) ≡ everyEdge (has c)
+joining-end c near i =
+    part-ext (partOf (record { set = c; near = near })) (everyEdge (has c)) (λ x. refl)
     (λ x y. i .is x y ∙ ap (λ (q : ℕ → Bool). q x && (has c y && not (eqb x y))) (done-all c))
 
 -- ---- edges between u and each of ys

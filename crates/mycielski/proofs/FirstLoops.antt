@@ -22,7 +22,7 @@ use Rattle.graphs.specs.declared.Node.{Node}
 use Rattle.graphs.proofs.PairLaws.{of-ne, ne-of}
 use Rattle.cliques.specs.Growth.{Within}
 use Rattle.cliques.proofs.WordLaws.{near-row}
-use Rattle.mycielski.specs.Rounds.{Part, whole, ofS, offers, ofW}
+use Rattle.mycielski.specs.Rounds.{Part, everyEdge, ofS, offers, ofW}
 use Rattle.mycielski.specs.Words.{misses, LacksAt, Outside}
 use Rattle.mycielski.specs.declared.Lack.{Lack}
 use Rattle.mycielski.proofs.DoneLaws.{imp-get, imp-make, done, done-none, done-all, within-again, done-more, count-more}
@@ -126,7 +126,7 @@ module _ {cap : ℕ} (h : Node) (k : HeldAt cap h) (c : ℕ) (verts : Within c (
   n = h .n
 
   abbrev H : Part
-  H = whole (has c)
+  H = everyEdge (has c)
 
   -- x lacks v
   abbrev bare : ℕ → ℕ → Bool

@@ -18,14 +18,14 @@ use Rattle.graphs.proofs.LoopLaws.{or-false}
 use Rattle.cliques.specs.Growth.{Within}
 use Rattle.cliques.proofs.WordLaws.{eqb-turn}
 use Rattle.mycielski.specs.Rounds.{Part, nearAll, ofS, offers, ofW, chosen, tied, extend}
-use Rattle.mycielski.specs.Words.{partOf, Inside, Ties}
+use Rattle.mycielski.specs.Words.{partOf, Among, Ties}
 use Rattle.mycielski.specs.declared.Sub.{Sub}
 use Rattle.mycielski.proofs.DoneLaws.{imp-get, done, done-none, done-all, within-again, done-more, any-more, any-none}
 use Rattle.mycielski.proofs.SetLoops.{live-below}
 use Rattle.mycielski.proofs.EdgeLoops.{part-ext}
 use Rattle.mycielski.proofs.WitnessLoops.{serving-live}
 
-module _ {cap : ℕ} (h : Node) (k : HeldAt cap h) (p : Sub) (ins : Inside (h .live) p) where
+module _ {cap : ℕ} (h : Node) (k : HeldAt cap h) (p : Sub) (ins : Among (h .live) p) where
   abbrev g : Graph
   g = view h
 

@@ -7,7 +7,7 @@ use native.Mathlib.Omega.{arith}
 use Rattle.sets.specs.Set.{size}
 use Rattle.graphs.specs.Held.{view, Held, holding}
 use Rattle.graphs.specs.declared.Node.{Node}
-use Rattle.cliques.specs.Growth.{first}
+use Rattle.cliques.specs.Growth.{opening}
 use Rattle.cliques.proofs.WordLaws.{size-none}
 use Rattle.cliques.proofs.HuntLaws.{Hunt, hunt-start, hunt-end, hunt-size, hunt-less, near-live, hunt-new, hunt-old, hunt-skip}
 use borrow.Author.Needs.{needs}
@@ -45,7 +45,7 @@ grow-requires : tie.Need-grow-requires Inv-loop μ-loop
 grow-requires c κs =
     let a = c .before .before .before .before .before .before .before .before in
     let h = holding (a .args .live) (a .args .rows .now) (a .pre .0) in (
-      (a .args .live, near-live h (a .pre .1) (first (h .n) (view h) (c .before .before .before .before .before .lowest .result)) (c .before .before .before .before .opened .result) (c .before .before .before .before .opened .ensures (a .pre .0) (a .pre .1)), a .pre),
+      (a .args .live, near-live h (a .pre .1) (opening (h .n) (view h) (c .before .before .before .before .before .lowest .result)) (c .before .before .before .before .opened .result) (c .before .before .before .before .opened .ensures (a .pre .0) (a .pre .1)), a .pre),
       λ x t. t,
     )
 
@@ -60,7 +60,7 @@ returns c =
     let h = holding (a .args .live) (a .args .rows .now) m in
     let o = c .before .before .before .before .before .before .before .before .opened in
     let i = hunt-new h k (b .free) (b .best) (c .before .before .before .before .before .before .before .before .before .lowest .result) (c .before .before .before .before .before .before .before .less .result) (o .result) (b .inv .1 m k) (c .before .before .before .before .before .before .before .before .before .lowest .ensures) (o .ensures m k)
-    (c .before .before .before .before .before .before .before .less .ensures) (c .before .before .before .grow .result) (c .before .before .before .grow .ensures (a .args .live) (near-live h k (first (h .n) (view h) (c .before .before .before .before .before .before .before .before .before .lowest .result)) (o .result) (o .ensures m k)) m k)
+    (c .before .before .before .before .before .before .before .less .ensures) (c .before .before .before .grow .result) (c .before .before .before .grow .ensures (a .args .live) (near-live h k (opening (h .n) (view h) (c .before .before .before .before .before .before .before .before .before .lowest .result)) (o .result) (o .ensures m k)) m k)
     (omega (arith, b .inv .0, c .before .if2 .taken, c .before .before .size2 .ensures)) in
     inr (le-trans (c .if3 .taken) (le-of-eq (c .before .before .size2 .ensures)), hunt-size h k (c .before .before .before .before .before .before .before .less .result) (c .before .before .before .grow .result .set) i)
 
@@ -81,7 +81,7 @@ loop-again c =
       λ m k.
           let h = holding (a .args .live) (a .args .rows .now) m in
           hunt-new h k (b .free) (b .best) (c .before .before .before .before .before .before .before .before .before .lowest .result) (c .before .before .before .before .before .before .before .less .result) (o .result) (b .inv .1 m k) (c .before .before .before .before .before .before .before .before .before .lowest .ensures) (o .ensures m k)
-          (c .before .before .before .before .before .before .before .less .ensures) (c .before .before .before .grow .result) (c .before .before .before .grow .ensures (a .args .live) (near-live h k (first (h .n) (view h) (c .before .before .before .before .before .before .before .before .before .lowest .result)) (o .result) (o .ensures m k)) m k)
+          (c .before .before .before .before .before .before .before .less .ensures) (c .before .before .before .grow .result) (c .before .before .before .grow .ensures (a .args .live) (near-live h k (opening (h .n) (view h) (c .before .before .before .before .before .before .before .before .before .lowest .result)) (o .result) (o .ensures m k)) m k)
           (omega (arith, b .inv .0, c .before .if2 .taken, c .before .before .size2 .ensures)),
     )
 
@@ -102,7 +102,7 @@ loop-again-2 c =
       λ m k.
           let h = holding (a .args .live) (a .args .rows .now) m in
           hunt-old h k (b .free) (b .best) (c .before .before .before .before .before .before .before .before .lowest .result) (c .before .before .before .before .before .before .less .result) (o .result) (b .inv .1 m k) (c .before .before .before .before .before .before .before .before .lowest .ensures) (o .ensures m k)
-          (c .before .before .before .before .before .before .less .ensures) (c .before .before .grow .result) (c .before .before .grow .ensures (a .args .live) (near-live h k (first (h .n) (view h) (c .before .before .before .before .before .before .before .before .lowest .result)) (o .result) (o .ensures m k)) m k)
+          (c .before .before .before .before .before .before .less .ensures) (c .before .before .grow .result) (c .before .before .grow .ensures (a .args .live) (near-live h k (opening (h .n) (view h) (c .before .before .before .before .before .before .before .before .lowest .result)) (o .result) (o .ensures m k)) m k)
           (omega (arith, b .inv .0, c .if2 .left, c .before .size2 .ensures)),
     )
 

@@ -8,9 +8,9 @@ use native.Mathlib.Omega.{arith}
 use Rattle.graphs.specs.Held.{Held, holding}
 use Rattle.graphs.specs.declared.Node.{Node}
 use Rattle.sets.specs.Set.{size}
-use Rattle.mycielski.specs.Rounds.{whole}
+use Rattle.mycielski.specs.Rounds.{everyEdge}
 use Rattle.mycielski.specs.Words.{partOf}
-use Rattle.mycielski.proofs.ClimbLaws.{Climb, clique-live, climb-inside, climb-le, climb-full, climb-none, climb-more, climb-w, climb-next, first-inside, first-fit, first-w, first-next}
+use Rattle.mycielski.proofs.ClimbLaws.{Climb, clique-live, climb-among, climb-le, climb-full, climb-none, climb-more, climb-w, climb-next, first-among, first-fit, first-w, first-next}
 use borrow.Author.Needs.{needs}
 use Rattle.mycielski.proofs.climb.Statement.{statement}
 use Rattle.mycielski.proofs.climb.Tie as tie
@@ -49,7 +49,7 @@ extended-requires c κs =
     let q = a .pre .0 in (
       q,
       (
-        first-inside (holding (a .args .live) (a .args .rows .now) (q .0)) (q .1) (a .args .c) (p .result) (p .ensures) (a .pre .1 .0 (q .0) (q .1)),
+        first-among (holding (a .args .live) (a .args .rows .now) (q .0)) (q .1) (a .args .c) (p .result) (p .ensures) (a .pre .1 .0 (q .0) (q .1)),
         (
           c .before .lowest .ensures .below,
           (
@@ -86,13 +86,13 @@ returns c =
     λ m k.
     let h = holding (a .args .live) (a .args .rows .now) m in
     let e = climb-full h k (l .p .set) (partOf (l .p) .edge) (l .b) (l .inv m k) (omega (arith, c .if1 .taken, c .before .before .before .before .before .before .before .before .before .before .size .ensures, c .before .size3 .ensures)) in
-    record { most = le-of-eq e; whole = λ q. e }
+    record { most = le-of-eq e; exact = λ q. e }
 
 witnesses-requires : tie.Need-witnesses-requires Inv-loop μ-loop
 witnesses-requires c κs =
     let a = c .before .before .before .before .before .before .before .before .before .before .before .before .before in
     let l = c .before .before .before .before .before .loop in
-    climb-inside (holding (a .args .live) (a .args .rows .now) (a .pre .0 .0)) (a .pre .0 .1) (l .p) (l .b) (l .inv (a .pre .0 .0) (a .pre .0 .1))
+    climb-among (holding (a .args .live) (a .args .rows .now) (a .pre .0 .0)) (a .pre .0 .1) (l .p) (l .b) (l .inv (a .pre .0 .0) (a .pre .0 .1))
 
 returns-2 : tie.Need-returns-2 Inv-loop μ-loop
 returns-2 c =
@@ -102,7 +102,7 @@ returns-2 c =
     let h = holding (a .args .live) (a .args .rows .now) m in
     let e = climb-none h k (l .p .set) (partOf (l .p) .edge) (l .b) (l .inv m k) (omega (arith, c .before .before .before .before .if1 .left, c .before .before .before .before .before .before .before .before .before .before .before .before .before .before .size .ensures, c .before .before .before .before .before .size3 .ensures))
     (c .before .witnesses .result) (c .before .witnesses .ensures m k) (c .if2 .taken) in
-    record { most = le-of-eq e; whole = λ q. e }
+    record { most = le-of-eq e; exact = λ q. e }
 
 add-if3 : tie.Need-add-if3 Inv-loop μ-loop
 add-if3 c = search needs
@@ -118,13 +118,13 @@ returns-3 c =
     let h = holding (a .args .live) (a .args .rows .now) m in
     let e = climb-more h k (l .p .set) (partOf (l .p) .edge) (l .b) (l .inv m k) (omega (arith, c .before .before .before .before .before .if1 .left, c .before .before .before .before .before .before .before .before .before .before .before .before .before .before .before .size .ensures, c .before .before .before .before .before .before .size3 .ensures))
     (c .before .before .witnesses .result) (c .before .before .witnesses .ensures m k) (c .before .if2 .left) in
-    record { most = rw (add-one (l .b)) e; whole = λ q. absurd (let z : ⊥ = omega (arith, c .if3 .taken) in z) }
+    record { most = rw (add-one (l .b)) e; exact = λ q. absurd (let z : ⊥ = omega (arith, c .if3 .taken) in z) }
 
 servings-requires : tie.Need-servings-requires Inv-loop μ-loop
 servings-requires c κs =
     let a = c .before .before .before .before .before .before .before .before .before .before .before .before .before .before .before .before .before .before in
     let l = c .before .before .before .before .before .before .before .before .before .before .loop in
-    climb-inside (holding (a .args .live) (a .args .rows .now) (a .pre .0 .0)) (a .pre .0 .1) (l .p) (l .b) (l .inv (a .pre .0 .0) (a .pre .0 .1))
+    climb-among (holding (a .args .live) (a .args .rows .now) (a .pre .0 .0)) (a .pre .0 .1) (l .p) (l .b) (l .inv (a .pre .0 .0) (a .pre .0 .1))
 
 lowest-requires-2 : tie.Need-lowest-requires-2 Inv-loop μ-loop
 lowest-requires-2 c κs = c .before .before .before .before .if2 .left
@@ -136,7 +136,7 @@ extended-requires-2 c κs =
     let q = a .pre .0 in (
       q,
       (
-        climb-inside (holding (a .args .live) (a .args .rows .now) (q .0)) (q .1) (l .p) (l .b) (l .inv (q .0) (q .1)),
+        climb-among (holding (a .args .live) (a .args .rows .now) (q .0)) (q .1) (l .p) (l .b) (l .inv (q .0) (q .1)),
         (
           c .before .lowest2 .ensures .below,
           (
@@ -172,7 +172,7 @@ returns-4 c =
     λ m k.
     record {
       most = climb-le (holding (a .args .live) (a .args .rows .now) m) k (l .p .set) (partOf (l .p) .edge) (l .b) (l .inv m k);
-      whole = λ q. absurd (let z : ⊥ = omega (arith, c .loop-test .left) in z);
+      exact = λ q. absurd (let z : ⊥ = omega (arith, c .loop-test .left) in z);
     }
 
 pub climb-spec : {M : Type 1} → statement M

@@ -9,7 +9,7 @@ use Rattle.graphs.specs.Held.{view, Held, holding}
 use Rattle.graphs.specs.declared.Node.{Node}
 use Rattle.cliques.specs.Growth.{Within}
 use Rattle.mycielski.specs.Rounds.{ofW}
-use Rattle.mycielski.specs.Words.{partOf, Inside}
+use Rattle.mycielski.specs.Words.{partOf, Among}
 use Rattle.mycielski.proofs.DoneLaws.{within-again}
 use Rattle.mycielski.proofs.RoundLoops.{offered, Extending, extending-start, extending-again, extending-end}
 use borrow.Author.Needs.{needs}
@@ -19,7 +19,7 @@ use Rattle.mycielski.proofs.extended.Tie as tie
 abbrev Inv-loop : tie.InvT-loop
 Inv-loop live rows w fit row old set₀ near₀ left₀ set near left =
     Within left left₀ × (length near ≡ 64)
-    × ((m : Node) → (k : Held (holding live rows m)) → (i : Inside live (record { set = left₀; near = old }))
+    × ((m : Node) → (k : Held (holding live rows m)) → (i : Among live (record { set = left₀; near = old }))
     → (t : T (ofW (m .n) (view (holding live rows m)) (partOf (record { set = left₀; near = old })) w))
     → Extending (holding live rows m) k (record { set = left₀; near = old }) i w t (record { set = set; near = near }) left)
 
