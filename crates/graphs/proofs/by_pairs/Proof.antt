@@ -41,7 +41,10 @@ add-common : tie.Need-add-common Inv-loop μ-loop
 add-common c = omega (arith, c .size .ensures, size-le 64 (c .before .meet .result))
 
 loop-less : tie.Need-loop-less Inv-loop μ-loop
-loop-less c = left-falls _ _ _ (c .before .before .before .before .before .before .lowest .ensures) (c .before .before .before .before .before .rest .ensures _ (c .before .before .before .before .before .before .lowest .ensures))
+loop-less c =
+    let low = c .before .before .before .before .before .before .lowest in
+    let gone = c .before .before .before .before .before .rest in
+    left-falls _ _ _ (low .ensures) (gone .ensures _ (low .ensures))
 
 loop-again : tie.Need-loop-again Inv-loop μ-loop
 loop-again c =
@@ -56,7 +59,10 @@ loop-again c =
     ∙ l .inv
 
 loop-less-2 : tie.Need-loop-less-2 Inv-loop μ-loop
-loop-less-2 c = left-falls _ _ _ (c .before .before .before .before .before .before .lowest .ensures) (c .before .before .before .before .before .rest .ensures _ (c .before .before .before .before .before .before .lowest .ensures))
+loop-less-2 c =
+    let low = c .before .before .before .before .before .before .lowest in
+    let gone = c .before .before .before .before .before .rest in
+    left-falls _ _ _ (low .ensures) (gone .ensures _ (low .ensures))
 
 loop-again-2 : tie.Need-loop-again-2 Inv-loop μ-loop
 loop-again-2 c =

@@ -48,11 +48,13 @@ loop-less c = left-falls _ _ _ (c .before .before .before .lowest .ensures) (c .
 
 loop-again : tie.Need-loop-again Inv-loop μ-loop
 loop-again c =
-    let l = c .before .before .before .before .before .loop in (
+    let l = c .before .before .before .before .before .loop in
+    let low = c .before .before .before .lowest in
+    let gone = c .before .before .without in (
       search needs,
       λ x y.
-          link-next (l .rows) (c .before .before .before .before .before .before .args .u) (l .left) (c .before .before .before .lowest .result) (c .before .before .without .result) (c .with .result)
-          (omega (arith, l .inv .0, c .before .before .before .before .before .before .pre .0, c .before .before .before .lowest .ensures .below)) (c .before .before .before .lowest .ensures .member) (c .before .before .without .ensures) (c .with .ensures) x y
+          link-next (l .rows) (c .before .before .before .before .before .before .args .u) (l .left) (low .result) (gone .result) (c .with .result)
+          (omega (arith, l .inv .0, c .before .before .before .before .before .before .pre .0, low .ensures .below)) (low .ensures .member) (gone .ensures) (c .with .ensures) x y
           ∙ l .inv .1 x y,
     )
 

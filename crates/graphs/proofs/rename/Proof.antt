@@ -44,18 +44,22 @@ loop-again c =
       search needs,
       search needs,
       λ k.
-          each-next (λ j x. to (c .before .before .before .before .args .u) (c .before .before .before .before .args .v) x) (l .names) (l .i) (c .renamed .result) (omega (arith, l .inv .1)) (c .renamed .ensures) k
+          each-next (λ j x. to (c .before .before .before .before .args .u) (c .before .before .before .before .args .v) x) (l .names) (l .i) (c .renamed .result)
+          (omega (arith, l .inv .1)) (c .renamed .ensures) k
           ∙ l .inv .2 k,
     )
 
 returns : tie.Need-returns Inv-loop μ-loop
-returns c = record {
-  long = omega (arith, c .before .loop .inv .1, c .before .before .pre .0);
-  is = λ k.
-      sym (each-done (λ j x. to (c .before .before .args .u) (c .before .before .args .v) x) (c .before .loop .names) (c .before .loop .i)
-      (omega (arith, c .before .loop .inv, c .loop-test .left)) (λ j. to-other (c .before .before .args .u) (c .before .before .args .v) 0 (λ e. absurd (omega (arith, c .before .before .pre)))) k)
-      ∙ c .before .loop .inv .2 k;
-}
+returns c =
+    let l = c .before .loop in
+    record {
+      long = omega (arith, l .inv .1, c .before .before .pre .0);
+      is = λ k.
+          sym (each-done (λ j x. to (c .before .before .args .u) (c .before .before .args .v) x) (l .names) (l .i)
+          (omega (arith, l .inv, c .loop-test .left))
+          (λ j. to-other (c .before .before .args .u) (c .before .before .args .v) 0 (λ e. absurd (omega (arith, c .before .before .pre)))) k)
+          ∙ l .inv .2 k;
+    }
 
 pub rename-spec : {M : Type 1} → statement M
 rename-spec =

@@ -8,7 +8,6 @@ use native.Mathlib.Omega.{arith}
 use Rattle.graphs.specs.Held.{Held, holding}
 use Rattle.graphs.specs.declared.Node.{Node}
 use Rattle.sets.specs.Set.{size}
-use Rattle.mycielski.specs.Rounds.{everyEdge}
 use Rattle.mycielski.specs.Words.{partOf}
 use Rattle.mycielski.proofs.ClimbLaws.{Climb, clique-live, climb-among, climb-le, climb-full, climb-none, climb-more, climb-w, climb-next, first-among, first-fit, first-w, first-next}
 use borrow.Author.Needs.{needs}
@@ -82,10 +81,11 @@ size-requires-3 c κs = search needs
 returns : tie.Need-returns Inv-loop μ-loop
 returns c =
     let a = c .before .before .before .before .before .before .before .before .before .before .before in
+    let sized = c .before .before .before .before .before .before .before .before .before .before .size in
     let l = c .before .before .before .loop in
     λ m k.
     let h = holding (a .args .live) (a .args .rows .now) m in
-    let e = climb-full h k (l .p .set) (partOf (l .p) .edge) (l .b) (l .inv m k) (omega (arith, c .if1 .taken, c .before .before .before .before .before .before .before .before .before .before .size .ensures, c .before .size3 .ensures)) in
+    let e = climb-full h k (l .p .set) (partOf (l .p) .edge) (l .b) (l .inv m k) (omega (arith, c .if1 .taken, sized .ensures, c .before .size3 .ensures)) in
     record { most = le-of-eq e; exact = λ q. e }
 
 witnesses-requires : tie.Need-witnesses-requires Inv-loop μ-loop
@@ -97,11 +97,15 @@ witnesses-requires c κs =
 returns-2 : tie.Need-returns-2 Inv-loop μ-loop
 returns-2 c =
     let a = c .before .before .before .before .before .before .before .before .before .before .before .before .before .before .before in
+    let sized = c .before .before .before .before .before .before .before .before .before .before .before .before .before .before .size in
     let l = c .before .before .before .before .before .before .before .loop in
+    let sized3 = c .before .before .before .before .before .size3 in
+    let test = c .before .before .before .before .if1 in
+    let witnesses = c .before .witnesses in
     λ m k.
     let h = holding (a .args .live) (a .args .rows .now) m in
-    let e = climb-none h k (l .p .set) (partOf (l .p) .edge) (l .b) (l .inv m k) (omega (arith, c .before .before .before .before .if1 .left, c .before .before .before .before .before .before .before .before .before .before .before .before .before .before .size .ensures, c .before .before .before .before .before .size3 .ensures))
-    (c .before .witnesses .result) (c .before .witnesses .ensures m k) (c .if2 .taken) in
+    let e = climb-none h k (l .p .set) (partOf (l .p) .edge) (l .b) (l .inv m k) (omega (arith, test .left, sized .ensures, sized3 .ensures))
+    (witnesses .result) (witnesses .ensures m k) (c .if2 .taken) in
     record { most = le-of-eq e; exact = λ q. e }
 
 add-if3 : tie.Need-add-if3 Inv-loop μ-loop
@@ -113,11 +117,15 @@ add-result c = search needs
 returns-3 : tie.Need-returns-3 Inv-loop μ-loop
 returns-3 c =
     let a = c .before .before .before .before .before .before .before .before .before .before .before .before .before .before .before .before in
+    let sized = c .before .before .before .before .before .before .before .before .before .before .before .before .before .before .before .size in
     let l = c .before .before .before .before .before .before .before .before .loop in
+    let sized3 = c .before .before .before .before .before .before .size3 in
+    let test = c .before .before .before .before .before .if1 in
+    let witnesses = c .before .before .witnesses in
     λ m k.
     let h = holding (a .args .live) (a .args .rows .now) m in
-    let e = climb-more h k (l .p .set) (partOf (l .p) .edge) (l .b) (l .inv m k) (omega (arith, c .before .before .before .before .before .if1 .left, c .before .before .before .before .before .before .before .before .before .before .before .before .before .before .before .size .ensures, c .before .before .before .before .before .before .size3 .ensures))
-    (c .before .before .witnesses .result) (c .before .before .witnesses .ensures m k) (c .before .if2 .left) in
+    let e = climb-more h k (l .p .set) (partOf (l .p) .edge) (l .b) (l .inv m k) (omega (arith, test .left, sized .ensures, sized3 .ensures))
+    (witnesses .result) (witnesses .ensures m k) (c .before .if2 .left) in
     record { most = rw (add-one (l .b)) e; exact = λ q. absurd (let z : ⊥ = omega (arith, c .if3 .taken) in z) }
 
 servings-requires : tie.Need-servings-requires Inv-loop μ-loop
@@ -132,17 +140,22 @@ lowest-requires-2 c κs = c .before .before .before .before .if2 .left
 extended-requires-2 : tie.Need-extended-requires-2 Inv-loop μ-loop
 extended-requires-2 c κs =
     let a = c .before .before .before .before .before .before .before .before .before .before .before .before .before .before .before .before .before .before .before .before .before in
+    let sized = c .before .before .before .before .before .before .before .before .before .before .before .before .before .before .before .before .before .before .before .before .size in
     let l = c .before .before .before .before .before .before .before .before .before .before .before .before .before .loop in
+    let sized3 = c .before .before .before .before .before .before .before .before .before .before .before .size3 in
+    let test = c .before .before .before .before .before .before .before .before .before .before .if1 in
+    let witnesses = c .before .before .before .before .before .before .before .witnesses in
+    let low2 = c .before .lowest2 in
     let q = a .pre .0 in (
       q,
       (
         climb-among (holding (a .args .live) (a .args .rows .now) (q .0)) (q .1) (l .p) (l .b) (l .inv (q .0) (q .1)),
         (
-          c .before .lowest2 .ensures .below,
+          low2 .ensures .below,
           (
             λ m k.
                 climb-w (holding (a .args .live) (a .args .rows .now) m) k (l .p .set) (partOf (l .p) .edge) (l .b) (l .inv m k)
-                (omega (arith, c .before .before .before .before .before .before .before .before .before .before .if1 .left, c .before .before .before .before .before .before .before .before .before .before .before .before .before .before .before .before .before .before .before .before .size .ensures, c .before .before .before .before .before .before .before .before .before .before .before .size3 .ensures)) (c .before .before .before .before .before .before .before .witnesses .result) (c .before .before .before .before .before .before .before .witnesses .ensures m k) (c .before .lowest2 .result) (c .before .lowest2 .ensures),
+                (omega (arith, test .left, sized .ensures, sized3 .ensures)) (witnesses .result) (witnesses .ensures m k) (low2 .result) (low2 .ensures),
             λ m k. c .before .before .servings .ensures m k,
           ),
         ),
@@ -150,7 +163,10 @@ extended-requires-2 c κs =
     )
 
 add-b-2 : tie.Need-add-b-2 Inv-loop μ-loop
-add-b-2 c = omega (arith, c .before .before .before .before .before .before .before .before .before .before .before .before .before .loop-test .taken, c .before .before .before .before .before .before .before .before .before .before .before .before .before .before .before .before .before .before .before .before .before .before .fits .enough .fits)
+add-b-2 c =
+    let a = c .before .before .before .before .before .before .before .before .before .before .before .before .before .before .before .before .before .before .before .before .before .before in
+    let ends = c .before .before .before .before .before .before .before .before .before .before .before .before .before .loop-test in
+    omega (arith, ends .taken, a .fits .enough .fits)
 
 loop-less : tie.Need-loop-less Inv-loop μ-loop
 loop-less c = search needs
@@ -158,11 +174,16 @@ loop-less c = search needs
 loop-again : tie.Need-loop-again Inv-loop μ-loop
 loop-again c =
     let a = c .before .before .before .before .before .before .before .before .before .before .before .before .before .before .before .before .before .before .before .before .before .before in
+    let sized = c .before .before .before .before .before .before .before .before .before .before .before .before .before .before .before .before .before .before .before .before .before .size in
     let l = c .before .before .before .before .before .before .before .before .before .before .before .before .before .before .loop in
+    let sized3 = c .before .before .before .before .before .before .before .before .before .before .before .before .size3 in
+    let test = c .before .before .before .before .before .before .before .before .before .before .before .if1 in
+    let witnesses = c .before .before .before .before .before .before .before .before .witnesses in
+    let low2 = c .before .before .lowest2 in
     λ m k.
     rw (add-one (l .b))
     (climb-next (holding (a .args .live) (a .args .rows .now) m) k (l .p .set) (partOf (l .p) .edge) (l .b) (l .inv m k)
-    (omega (arith, c .before .before .before .before .before .before .before .before .before .before .before .if1 .left, c .before .before .before .before .before .before .before .before .before .before .before .before .before .before .before .before .before .before .before .before .before .size .ensures, c .before .before .before .before .before .before .before .before .before .before .before .before .size3 .ensures)) (c .before .before .before .before .before .before .before .before .witnesses .result) (c .before .before .before .before .before .before .before .before .witnesses .ensures m k) (c .before .before .lowest2 .result) (c .before .before .lowest2 .ensures)
+    (omega (arith, test .left, sized .ensures, sized3 .ensures)) (witnesses .result) (witnesses .ensures m k) (low2 .result) (low2 .ensures)
     (partOf (c .extended2 .result)) (c .extended2 .ensures m k))
 
 returns-4 : tie.Need-returns-4 Inv-loop μ-loop

@@ -68,17 +68,20 @@ loop-less c =
 loop-again : tie.Need-loop-again Inv-loop μ-loop
 loop-again c =
     let a = c .before .before .before .before .before .before .before .before .before in
+    let l = c .before .before .before .before .before .before .before .before .lacking in
+    let f = c .before .before .before .before .before .before .before .less in
     let b = c .before .before .before .before .before .before .loop in
     let v = c .before .before .before .before .lowest in
-    let l = c .before .before .before .before .before .before .before .before .lacking in
-    let f = c .before .before .before .before .before .before .before .less in (
+    let met = c .before .before .meet in
+    let cut2 = c .before .less2 in (
       within-again (a .args .c) (b .left) (v .result) (c .rest .result) (b .inv .0) (v .ensures) (c .rest .ensures (v .result) (v .ensures)),
       search needs,
       λ m k.
-          fitting-again 64 (a .args .c) (λ v. nearAll (m .n) (view (holding (a .args .live) (a .args .rows .now) m)) (everyEdge (has (a .args .c)) .edge v)) (b .fit) (b .left) (v .result) (c .before .less2 .result) (c .rest .result)
+          fitting-again 64 (a .args .c) (λ v. nearAll (m .n) (view (holding (a .args .live) (a .args .rows .now) m)) (everyEdge (has (a .args .c)) .edge v)) (b .fit) (b .left)
+          (v .result) (cut2 .result) (c .rest .result)
           (b .inv .2 m k) (v .ensures)
-          (first-serving (holding (a .args .live) (a .args .rows .now) m) k (a .args .c) (a .pre) (l .result) (l .ensures) (v .result) (f .result) (c .before .before .meet .result) (c .before .less2 .result)
-          (b .inv .0 (v .result) (v .ensures .member)) (f .ensures) (c .before .before .meet .ensures) (c .before .less2 .ensures))
+          (first-serving (holding (a .args .live) (a .args .rows .now) m) k (a .args .c) (a .pre) (l .result) (l .ensures) (v .result) (f .result) (met .result) (cut2 .result)
+          (b .inv .0 (v .result) (v .ensures .member)) (f .ensures) (met .ensures) (cut2 .ensures))
           (c .rest .ensures (v .result) (v .ensures)),
     )
 

@@ -41,14 +41,22 @@ rest-requires : tie.Need-rest-requires Inv-loop μ-loop
 rest-requires c κs = search needs
 
 loop-less : tie.Need-loop-less Inv-loop μ-loop
-loop-less c = left-falls (c .before .before .before .before .before .before .before .before .loop .left) (c .before .before .before .before .before .before .lowest .result) (c .rest .result) (c .before .before .before .before .before .before .lowest .ensures) (c .rest .ensures (c .before .before .before .before .before .before .lowest .result) (c .before .before .before .before .before .before .lowest .ensures))
+loop-less c =
+    let l = c .before .before .before .before .before .before .before .before .loop in
+    let low = c .before .before .before .before .before .before .lowest in
+    left-falls (l .left) (low .result) (c .rest .result) (low .ensures) (c .rest .ensures (low .result) (low .ensures))
 
 loop-again : tie.Need-loop-again Inv-loop μ-loop
 loop-again c =
     let a = c .before .before .before .before .before .before .before .before .before .args in
     let b = c .before .before .before .before .before .before .before .before .loop in
-    lacking-again 64 (a .live) (a .rows .now) (a .c) (b .once) (b .twice) (b .left) (c .before .before .before .before .before .before .lowest .result) (c .before .before .before .before .less .result) (c .before .before .before .meet .result) (c .before .before .join .result)
-    (c .before .join2 .result) (c .rest .result) (b .inv) (c .before .before .before .before .before .before .lowest .ensures) (c .before .before .before .before .less .ensures) (c .before .before .before .meet .ensures) (c .before .before .join .ensures) (c .before .join2 .ensures) (c .rest .ensures (c .before .before .before .before .before .before .lowest .result) (c .before .before .before .before .before .before .lowest .ensures))
+    let low = c .before .before .before .before .before .before .lowest in
+    let cut = c .before .before .before .before .less in
+    let met = c .before .before .before .meet in
+    let both = c .before .before .join in
+    let both2 = c .before .join2 in
+    lacking-again 64 (a .live) (a .rows .now) (a .c) (b .once) (b .twice) (b .left) (low .result) (cut .result) (met .result) (both .result)
+    (both2 .result) (c .rest .result) (b .inv) (low .ensures) (cut .ensures) (met .ensures) (both .ensures) (both2 .ensures) (c .rest .ensures (low .result) (low .ensures))
 
 returns : tie.Need-returns Inv-loop μ-loop
 returns c =

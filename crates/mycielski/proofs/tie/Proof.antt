@@ -57,14 +57,20 @@ rest-requires : tie.Need-rest-requires Inv-loop μ-loop
 rest-requires c κs = search needs
 
 loop-less : tie.Need-loop-less Inv-loop μ-loop
-loop-less c = left-falls (c .before .before .before .before .before .loop .left) (c .before .before .before .lowest .result) (c .rest .result) (c .before .before .before .lowest .ensures) (c .rest .ensures (c .before .before .before .lowest .result) (c .before .before .before .lowest .ensures))
+loop-less c =
+    let l = c .before .before .before .before .before .loop in
+    let low = c .before .before .before .lowest in
+    left-falls (l .left) (low .result) (c .rest .result) (low .ensures) (c .rest .ensures (low .result) (low .ensures))
 
 loop-again : tie.Need-loop-again Inv-loop μ-loop
 loop-again c =
     let a = c .before .before .before .before .before .before .before .before in
+    let both = c .before .before .before .before .before .before .join in
     let b = c .before .before .before .before .before .loop in
-    tying-again (a .args .u) (a .args .ys) (set (a .args .near .now) (a .args .u) (c .before .before .before .before .before .before .join .result)) (b .near) (b .left)
-    (c .before .before .before .lowest .result) (c .before .with .result) (c .rest .result) (b .inv) (c .before .before .before .lowest .ensures) (c .before .with .ensures) (c .rest .ensures (c .before .before .before .lowest .result) (c .before .before .before .lowest .ensures))
+    let low = c .before .before .before .lowest in
+    let put = c .before .with in
+    tying-again (a .args .u) (a .args .ys) (set (a .args .near .now) (a .args .u) (both .result)) (b .near) (b .left)
+    (low .result) (put .result) (c .rest .result) (b .inv) (low .ensures) (put .ensures) (c .rest .ensures (low .result) (low .ensures))
 
 returns : tie.Need-returns Inv-loop μ-loop
 returns c =

@@ -34,7 +34,8 @@ rest-requires c κs = search needs
 loop-less : tie.Need-loop-less Inv-loop μ-loop
 loop-less c =
     let b = c .before .before .before .before in
-    left-falls (b .loop .left) (c .before .before .lowest .result) (c .rest .result) (c .before .before .lowest .ensures) (c .rest .ensures (c .before .before .lowest .result) (c .before .before .lowest .ensures))
+    let low = c .before .before .lowest in
+    left-falls (b .loop .left) (low .result) (c .rest .result) (low .ensures) (c .rest .ensures (low .result) (low .ensures))
 
 loop-again : tie.Need-loop-again Inv-loop μ-loop
 loop-again c =
