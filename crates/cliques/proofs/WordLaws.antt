@@ -5,11 +5,11 @@ use mathlib.Core.Bool.{Bool, true, false, _&&_, _||_}
 use mathlib.Core.List.{List, [], _∷_}
 use Prim.Native.Nat.{ℕ, zero, _≤_, _<_}
 use native.Mathlib.Omega.{arith}
-use lib.Dec.{T, eqb, eqb→eq}
+use lib.Dec.{T, eqb}
 use lib.ListN.{length, getD}
 use Rattle.sets.specs.Lists.{upto, members}
 use Rattle.sets.specs.Set.{has, size, IsWith, IsMeet, IsLowest}
-use Rattle.sets.proofs.TestLaws.{and-l, and-r, and-t, T→true, T-ext, eqb-of}
+use Rattle.sets.proofs.TestLaws.{and-l, and-r, and-t, or-turn, T→true, T-ext, eqb-turn}
 use Rattle.sets.proofs.ListLaws.{count-lt, In-table}
 use Rattle.sets.proofs.MemberLaws.{members-count, members-none, In-members, members-In, members-noDup}
 use Rattle.sets.proofs.SetLaws.{has-none}
@@ -24,17 +24,8 @@ use Rattle.cliques.proofs.ScanLaws.{scan-lowest}
 
 -- ---- sets
 
-pub eqb-turn : (x y : ℕ) → eqb x y ≡ eqb y x
-eqb-turn x y = T-ext (eqb x y) (eqb y x) (λ t. eqb-of y x (sym (eqb→eq x y t))) (λ t. eqb-of x y (sym (eqb→eq y x t)))
-
 pub with-isIn : (c : List ℕ) (s v r : ℕ) → IsSetOf c s → IsWith s v r → IsSetOf (v ∷ c) r
-with-isIn c s v r p q x = q x ∙ ap₂ (λ (a b : Bool). a || b) (p x) (eqb-turn v x) ∙ turn (isIn x c) (eqb x v)
-  where
-    turn : (a b : Bool) → (a || b) ≡ (b || a)
-    turn true true = refl
-    turn true false = refl
-    turn false true = refl
-    turn false false = refl
+with-isIn c s v r p q x = q x ∙ ap₂ (λ (a b : Bool). a || b) (p x) (eqb-turn v x) ∙ or-turn (isIn x c) (eqb x v)
 
 pub none-isIn : IsSetOf [] 0
 none-isIn x = has-none x

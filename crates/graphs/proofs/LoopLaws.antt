@@ -1,7 +1,7 @@
 -- Laws of loops that go through a set's members, lowest first. Assumes nothing.
-use mathlib.Core.Path.{_≡_, refl, sym, ap, _∙_, subst}
+use mathlib.Core.Path.{_≡_, sym, ap, _∙_, subst}
 use mathlib.Core.Logic.{_≢_}
-use mathlib.Core.Bool.{Bool, true, false, not, _||_, cond}
+use mathlib.Core.Bool.{Bool, not, cond}
 use mathlib.Core.List.{List}
 use Prim.Native.Nat.{ℕ, zero, _+_, _≤_, _<_}
 use native.Mathlib.Decide.{ℕ-discrete, decLt}
@@ -91,7 +91,3 @@ each-done f l i b z k = go (decLt k i)
     go (no q) =
         let e : getD l k zero ≡ zero = List·getD-eq-default l zero (omega arith) in
         ap (λ (t : Bool). cond t (getD l k zero) (f k (getD l k zero))) (le-ltb k i (omega arith)) ∙ ap (f k) e ∙ z k ∙ sym e
-
-pub or-false : (b : Bool) → (b || false) ≡ b
-or-false true = refl
-or-false false = refl

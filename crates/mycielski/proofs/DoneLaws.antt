@@ -10,10 +10,9 @@ use lib.Dec.{T, eqb, eqb→eq}
 use borrow.Author.Tests.{eq-eqb, ne-eqb}
 use Rattle.sets.specs.Lists.{bit, count, all, any, upto}
 use Rattle.sets.specs.Set.{has, IsWithout, IsLowest}
-use Rattle.sets.proofs.TestLaws.{and-l, and-r, and-t, and-true, or-l, or-r, or-cases, T→true, T→false, T-ext, eqb-of, all-get, all-make, any-get, any-make}
+use Rattle.sets.proofs.TestLaws.{and-l, and-r, and-t, and-true, or-false, or-l, or-r, or-cases, T→true, T→false, T-ext, eqb-of, all-get, all-make, any-get, any-make}
 use Rattle.sets.proofs.MemberLaws.{count-but}
 use Rattle.sets.proofs.SetLaws.{has-none}
-use Rattle.graphs.proofs.LoopLaws.{or-false}
 use Rattle.cliques.specs.Growth.{Within}
 
 -- what passes where a test does

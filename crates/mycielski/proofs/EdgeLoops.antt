@@ -11,10 +11,9 @@ use lib.ListN.{length, getD, set, replicate, length-set, length-replicate, getD-
 use lib.Seq.{getD-set-same, getD-set-other}
 use borrow.Author.Tests.{eq-eqb, ne-eqb}
 use Rattle.sets.specs.Set.{has, IsWith, IsWithout, IsJoin, IsLowest}
+use Rattle.sets.proofs.TestLaws.{or-false, or-assoc, eqb-turn}
 use Rattle.sets.proofs.SetLaws.{has-none}
-use Rattle.graphs.proofs.LoopLaws.{or-false}
 use Rattle.cliques.specs.Growth.{Within}
-use Rattle.cliques.proofs.WordLaws.{eqb-turn}
 use Rattle.mycielski.specs.Rounds.{Part, everyEdge}
 use Rattle.mycielski.specs.Words.{partOf, Ties}
 use Rattle.mycielski.proofs.DoneLaws.{done, done-none, done-all, within-again, done-more}
@@ -120,11 +119,7 @@ laid near u ys s r b j i x y =
     (λ e. j y ∙ ap₂ (λ (a c : Bool). a || (c && has ys y)) (ap (λ (z : ℕ). has (getD near z zero) y) e) (sym (eq-eqb x u (sym e))))
     (λ d. sym (ap (λ (c : Bool). has (getD near x zero) y || (c && has ys y)) (ne-eqb x u (λ e. d (sym e))) ∙ or-false (has (getD near x zero) y))))
     (ap (λ (q : ℕ → Bool). q x) (done-all ys))
-    ∙ sym (assoc (has (getD near x zero) y) (eqb x u && has ys y) (eqb y u && has ys x))
-  where
-    assoc : (a b c : Bool) → (a || (b || c)) ≡ ((a || b) || c)
-    assoc true b c = refl
-    assoc false b c = refl
+    ∙ sym (or-assoc (has (getD near x zero) y) (eqb x u && has ys y) (eqb y u && has ys x))
 
 pub tying-end : (cap : ℕ) (near : List ℕ) (u ys s : ℕ) (r : List ℕ) → length near ≡ cap → u < cap → IsJoin (getD near u zero) ys s → Tying cap u ys (set near u s) r 0
     → Ties near u ys r

@@ -20,13 +20,13 @@ use Rattle.graphs.specs.Graph.{Graph, live}
 use Rattle.graphs.specs.Held.{view, HeldAt}
 use Rattle.graphs.specs.declared.Node.{Node}
 use Rattle.graphs.proofs.PairLaws.{of-ne, ne-of}
+use Rattle.graphs.proofs.HeldLaws.{live-below}
 use Rattle.cliques.specs.Growth.{Within}
 use Rattle.cliques.proofs.WordLaws.{near-row}
 use Rattle.mycielski.specs.Rounds.{Part, everyEdge, ofS, offers, ofW}
 use Rattle.mycielski.specs.Words.{misses, LacksAt, Outside}
 use Rattle.mycielski.specs.declared.Lack.{Lack}
 use Rattle.mycielski.proofs.DoneLaws.{imp-get, imp-make, done, done-none, done-all, within-again, done-more, count-more}
-use Rattle.mycielski.proofs.SetLoops.{live-below}
 use Rattle.mycielski.proofs.WitnessLoops.{live-among}
 
 -- ---- counts against numbers and lists

@@ -8,7 +8,7 @@ use lib.Dec.{T}
 use lib.ListN.{length, getD, set, replicate, length-set, length-replicate}
 use borrow.Author.Tests.{ne-eqb}
 use Rattle.sets.specs.Set.{has, IsWithout, IsLowest}
-use Rattle.graphs.proofs.LoopLaws.{or-false}
+use Rattle.sets.proofs.TestLaws.{or-false}
 use Rattle.cliques.specs.Growth.{Within}
 use Rattle.mycielski.proofs.DoneLaws.{done, done-none, done-all, within-again, done-more}
 use Rattle.mycielski.proofs.EdgeLoops.{getD-set}

@@ -8,20 +8,18 @@ use lib.Dec.{T, eqb}
 use lib.ListN.{length, getD}
 use Rattle.sets.specs.Lists.{all, any}
 use Rattle.sets.specs.Set.{has, IsWith, IsWithout, IsMeet, IsLowest}
-use Rattle.sets.proofs.TestLaws.{and-l, and-r, and-t, T-ext, all-get, any-get}
+use Rattle.sets.proofs.TestLaws.{and-l, and-r, and-t, or-false, or-turn, T-ext, eqb-turn, all-get, any-get}
 use Rattle.sets.proofs.MemberLaws.{lowest-is}
 use Rattle.sets.proofs.SetLaws.{has-none}
 use Rattle.graphs.specs.Graph.{Graph, live}
 use Rattle.graphs.specs.Held.{view, HeldAt}
 use Rattle.graphs.specs.declared.Node.{Node}
-use Rattle.graphs.proofs.LoopLaws.{or-false}
+use Rattle.graphs.proofs.HeldLaws.{live-below}
 use Rattle.cliques.specs.Growth.{Within}
-use Rattle.cliques.proofs.WordLaws.{eqb-turn}
 use Rattle.mycielski.specs.Rounds.{Part, nearAll, ofS, offers, ofW, chosen, tied, extend}
 use Rattle.mycielski.specs.Words.{partOf, Among, Ties}
 use Rattle.mycielski.specs.declared.Sub.{Sub}
 use Rattle.mycielski.proofs.DoneLaws.{imp-get, done, done-none, done-all, within-again, done-more, any-more, any-none}
-use Rattle.mycielski.proofs.SetLoops.{live-below}
 use Rattle.mycielski.proofs.EdgeLoops.{part-ext}
 use Rattle.mycielski.proofs.WitnessLoops.{serving-live}
 
@@ -127,16 +125,10 @@ module _ {cap : ℕ} (h : Node) (k : HeldAt cap h) (p : Sub) (ins : Among (h .li
         is : chosen n g H w v ≡ u
         is = chosen-is v s m e q u lu
 
-        turn : (a b : Bool) → (a || b) ≡ (b || a)
-        turn true true = refl
-        turn true false = refl
-        turn false true = refl
-        turn false false = refl
-
         tie : (x y : ℕ) → (eqb x u && has ys y) ≡ tied n g H w v x y
         tie x y =
             ap₂ (λ (a b : Bool). a && b) (ap (eqb x) (sym is))
-            (wy y ∙ turn (has (getD (p .near) v zero) y) (eqb w y) ∙ ap (λ (b : Bool). b || has (getD (p .near) v zero) y) (eqb-turn w y))
+            (wy y ∙ or-turn (has (getD (p .near) v zero) y) (eqb w y) ∙ ap (λ (b : Bool). b || has (getD (p .near) v zero) y) (eqb-turn w y))
 
         two : (a b c : Bool) → ((a || b) || c) ≡ (a || (b || c))
         two true b c = refl

@@ -1,7 +1,7 @@
 -- S(v) and the vertices that it reaches, gathered over the members of a set, lowest first. Assumes nothing.
-use mathlib.Core.Path.{_≡_, refl, sym, ap, ap₂, _∙_, subst}
+use mathlib.Core.Path.{_≡_, refl, sym, ap, ap₂, _∙_}
 use mathlib.Core.Bool.{Bool, true, false, not, _&&_, _||_}
-use Prim.Native.Nat.{ℕ, zero, _<_}
+use Prim.Native.Nat.{ℕ, zero}
 use lib.Dec.{T}
 use lib.ListN.{getD}
 use Rattle.sets.specs.Lists.{all, any}
@@ -11,7 +11,7 @@ use Rattle.sets.proofs.SetLaws.{has-none}
 use Rattle.graphs.specs.Graph.{Graph, live}
 use Rattle.graphs.specs.Held.{view, HeldAt}
 use Rattle.graphs.specs.declared.Node.{Node}
-use Rattle.graphs.proofs.GraphLaws.{live-of}
+use Rattle.graphs.proofs.HeldLaws.{live-below}
 use Rattle.cliques.specs.Growth.{Within}
 use Rattle.cliques.proofs.WordLaws.{near-row}
 use Rattle.mycielski.specs.Rounds.{nearAll}
@@ -24,9 +24,6 @@ module _ {cap : ℕ} (h : Node) (k : HeldAt cap h) where
 
   abbrev n : ℕ
   n = h .n
-
-  pub live-below : (x : ℕ) → T (has (h .live) x) → x < n
-  live-below x t = live-of n g x (subst T (k .lives x) t) .below
 
   -- ---- S(v)
 
@@ -52,7 +49,7 @@ module _ {cap : ℕ} (h : Node) (k : HeldAt cap h) where
         ∙ shuffle (has (h .live) x) (old x) (has (getD (h .rows) v zero) x)
         ∙ ap₂ (λ (a b : Bool). a && (old x && b)) (k .lives x) (sym (near-row h k v x live-v))
         ∙ ap (λ (b : Bool). live n g x && b)
-        (sym (all-more n (λ y. done near left y) (λ y. done near left′ y) (λ y. g .adj x y) v (live-below v live-v) (done-more near left v left′ (i .within) w o)));
+        (sym (all-more n (λ y. done near left y) (λ y. done near left′ y) (λ y. g .adj x y) v (live-below h k v live-v) (done-more near left v left′ (i .within) w o)));
   }
     where
       live-v : T (has (h .live) v)
@@ -92,7 +89,7 @@ module _ {cap : ℕ} (h : Node) (k : HeldAt cap h) where
     is = λ y.
         ap (λ (b : Bool). has (h .live) y && b) (j y) ∙ spread (has (h .live) y) (has r y) (has (getD (h .rows) x zero) y)
         ∙ ap₂ (λ (a b : Bool). a || b) (i .is y) (sym (near-row h k x y live-x))
-        ∙ sym (any-more n (λ z. done s left z) (λ z. done s left′ z) (λ z. g .adj y z) x (live-below x live-x) (done-more s left x left′ (i .within) w o));
+        ∙ sym (any-more n (λ z. done s left z) (λ z. done s left′ z) (λ z. g .adj y z) x (live-below h k x live-x) (done-more s left x left′ (i .within) w o));
   }
     where
       live-x : T (has (h .live) x)

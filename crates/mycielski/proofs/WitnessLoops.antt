@@ -10,11 +10,11 @@ use Rattle.sets.proofs.SetLaws.{has-none}
 use Rattle.graphs.specs.Graph.{Graph, live}
 use Rattle.graphs.specs.Held.{view, HeldAt}
 use Rattle.graphs.specs.declared.Node.{Node}
+use Rattle.graphs.proofs.HeldLaws.{live-below}
 use Rattle.cliques.specs.Growth.{Within}
 use Rattle.mycielski.specs.Rounds.{Part, ofS, offers, ofW}
 use Rattle.mycielski.specs.Words.{reachable}
 use Rattle.mycielski.proofs.DoneLaws.{imp-get, imp-make, done, done-none, done-all, within-again, done-more, all-more, all-none}
-use Rattle.mycielski.proofs.SetLoops.{live-below}
 
 module _ {cap : ℕ} (h : Node) (k : HeldAt cap h) (set : ℕ) (edge : ℕ → ℕ → Bool) (verts : Within set (h .live)) where
   abbrev g : Graph

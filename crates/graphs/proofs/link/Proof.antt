@@ -7,8 +7,9 @@ use lib.Dec.{eqb}
 use lib.ListN.{length, getD}
 use Rattle.sets.specs.Set.{has, size}
 use Rattle.sets.proofs.SetLaws.{has-none}
-use Rattle.graphs.proofs.LoopLaws.{left-falls, or-false}
+use Rattle.graphs.proofs.LoopLaws.{left-falls}
 use Rattle.graphs.proofs.HeldLaws.{link-next}
+use Rattle.sets.proofs.TestLaws.{or-false}
 use borrow.Author.Needs.{needs}
 use Rattle.graphs.proofs.link.Statement.{statement}
 use Rattle.graphs.proofs.link.Tie as tie
