@@ -140,7 +140,8 @@ module _ (g : Graph) where
       go false r =
           ap (λ (l : List (List ℕ)). scan g (x ∷ []) vs ∷ l)
           (r (λ y. taken y || isIn y (scan g (x ∷ []) vs)) (fresh false)
-          (λ y j. ap₂ (λ (a b : Bool). a || b) (old y j) (sym (or-false (isIn y (scan g (x ∷ []) vs)))) ∙ sym (some-append (λ c. isIn y (scan g c vs)) (again g cs x) ((x ∷ []) ∷ []))))
+          (λ y j. ap₂ (λ (a b : Bool). a || b) (old y j) (sym (or-false (isIn y (scan g (x ∷ []) vs))))
+          ∙ sym (some-append (λ c. isIn y (scan g c vs)) (again g cs x) ((x ∷ []) ∷ []))))
 
   pub cliques-chain : (n : ℕ) → cliques n g ≡ map (λ c. scan g c (vertices n g)) (chain (λ x. false) (vertices n g))
   cliques-chain n =

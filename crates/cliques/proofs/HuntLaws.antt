@@ -67,7 +67,8 @@ module _ {cap : ℕ} (h : Node) (k : HeldAt cap h) where
         into x t =
             let u = left-near x t in
             let q = t-not (ltb x s) (subst (λ (c : Bool). T (not c)) (wb x) (and-r (has m x) (not (has b x)) (subst T (wl x) t))) in
-            let d : x ≢ s = λ e. row-loop h k s ls (subst (λ z. T (has (getD (h .rows) s zero) z)) e (and-r (has (h .live) x) (has (getD (h .rows) s zero) x) (subst T (wm x) u))) in
+            let d : x ≢ s = λ e. row-loop h k s ls
+            (subst (λ z. T (has (getD (h .rows) s zero) z)) e (and-r (has (h .live) x) (has (getD (h .rows) s zero) x) (subst T (wm x) u))) in
             and-t (live n g x) (ltb s x) (subst T (k .lives x) (near-lives x u)) (lt→ltb s x (above x d (λ l. q (lt→ltb x s l))))
           where
             above : (x : ℕ) → x ≢ s → (x < s → ⊥) → s < x

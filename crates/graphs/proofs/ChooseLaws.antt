@@ -80,7 +80,8 @@ module _ (rows : List ℕ) (near apart u : ℕ) (best : Lead) (c : Counts) (m : 
     pub most-leads : best .size ≤ m .count → record { size = m .count + 1; u = u; v = v } ≡ over (lead (shared rows near) u) best (members (has apart) 64)
     most-leads b =
         ap (λ (k : ℕ). record { size = k; u = u; v = v }) (add-one (m .count) ∙ ap suc (sym most-shared))
-        ∙ sym (lead-first (shared rows near) u (has apart) v in-apart less (λ j t. omega (arith, top .greatest j t, value-shared j t, most-shared)) 64 (low .below) best (omega (arith, most-shared)))
+        ∙ sym (lead-first (shared rows near) u (has apart) v in-apart less (λ j t. omega (arith, top .greatest j t, value-shared j t, most-shared)) 64 (low .below) best
+        (omega (arith, most-shared)))
       where
         in-apart : T (has apart v)
         in-apart = and-l (has apart v) (eqb (value c v) (m .count)) apart-and
@@ -171,12 +172,14 @@ module _ (cap : ℕ) (rows : List ℕ) (live : ℕ) where
         near-few =
             count-le (λ w. has near w && has (getD rows v zero) w) (λ w. has live w && has (getD rows v zero) w) (upto cap)
             (λ w m. and-t (has live w) (has (getD rows v zero) w)
-            (and-r (has (getD rows u zero) w) (has live w) (subst T (is-near w) (and-l (has near w) (has (getD rows v zero) w) m))) (and-r (has near w) (has (getD rows v zero) w) m))
+            (and-r (has (getD rows u zero) w) (has live w) (subst T (is-near w) (and-l (has near w) (has (getD rows v zero) w) m)))
+            (and-r (has near w) (has (getD rows v zero) w) m))
 
     -- so all that are open to u give what those give that are left
     row-same : over (lead (sharedAt cap rows near) u) best (members (has apart) cap) ≡ over (lead (sharedAt cap rows near) u) best (members (λ y. open? (u, y)) cap)
     row-same =
-        over-narrow (lead (sharedAt cap rows near) u) (λ l. best .size ≤ l .size) (λ y. open? (u, y)) (has apart) apart-open (λ l v h. lead-grows (sharedAt cap rows near) u l v (best .size) h)
+        over-narrow (lead (sharedAt cap rows near) u) (λ l. best .size ≤ l .size) (λ y. open? (u, y)) (has apart) apart-open
+        (λ l v h. lead-grows (sharedAt cap rows near) u l v (best .size) h)
         (λ l v h t q. lead-less (sharedAt cap rows near) u l v (omega (arith, passed-few v t q))) cap best (omega arith) .0
 
     row-shared : (v : ℕ) → In v (members (λ y. open? (u, y)) cap) → sharedAt cap rows near v ≡ sharing (u, v)
@@ -253,7 +256,8 @@ module _ (cap : ℕ) (rows : List ℕ) (live : ℕ) where
       leads = leads′;
       same = over-narrow (row-lead sharing open? cap) (λ o. new .size ≤ reach sharing o) (has next) (has kept) into
           (λ o x h. omega (arith, row-grows sharing x (members (λ y. open? (x, y)) cap) o))
-          (λ o x h t q. row-stays sharing x (members (λ y. open? (x, y)) cap) o (λ y i. omega (arith, few x t q, share-few x y))) cap top′ (omega (arith, leads-reach sharing new top′ leads′)) .0
+          (λ o x h t q. row-stays sharing x (members (λ y. open? (x, y)) cap) o (λ y i. omega (arith, few x t q, share-few x y))) cap top′
+          (omega (arith, leads-reach sharing new top′ leads′)) .0
           ∙ over-next (row-lead sharing open? cap) (s .top) top′ left u next low out refl ∙ s .same;
     }
 
@@ -325,7 +329,8 @@ module _ {cap : ℕ} (h : Node) (k : HeldAt cap h) where
   pair-scan : over (row-lead (sharing cap (h .rows) (h .live)) (open? cap (h .rows) (h .live)) cap) none (members (has (h .live)) cap) ≡ pair (h .n) (view h)
   pair-scan =
       ap (λ f. over (row-lead f (open? cap (h .rows) (h .live)) cap) none (members (has (h .live)) cap)) sharing-common
-      ∙ over-agree (row-lead (common (h .n) (view h)) (open? cap (h .rows) (h .live)) cap) (row-lead (common (h .n) (view h)) (gap (h .n) (view h)) (h .n)) (members (has (h .live)) cap)
+      ∙ over-agree (row-lead (common (h .n) (view h)) (open? cap (h .rows) (h .live)) cap) (row-lead (common (h .n) (view h)) (gap (h .n) (view h)) (h .n))
+      (members (has (h .live)) cap)
       (λ x i o. ap (λ vs. over (after (common (h .n) (view h))) o (pairs x vs)) (row-gaps x (In-members (has (h .live)) cap x i .1))) none
       ∙ ap (over (row-lead (common (h .n) (view h)) (gap (h .n) (view h)) (h .n)) none) (held-members h k)
       ∙ sym (cross-lead (common (h .n) (view h)) (gap (h .n) (view h)) (live (h .n) (view h)) (h .n) (h .n) no-row none)

@@ -112,7 +112,9 @@ module _ (cap : ℕ) (rows : List ℕ) (r : Node) (s : Sound rows) (few : length
     (held : (x : ℕ) → getD (r .rows) x zero ≡ cond (ltb x (length rows)) (getD rows x zero) zero)
     (names : (i : ℕ) → getD (r .names) i zero ≡ cond (ltb i (length rows)) i zero) (rows-long : length (r .rows) ≡ cap) (names-long : length (r .names) ≡ cap) where
   root-adj : (x y : ℕ) → view r .adj x y ≡ graph (length rows) (matrix rows) .adj x y
-  root-adj x y = ap₂ (λ (a b : Bool). a && (b && has (getD (r .rows) x zero) y)) (below x) (below y) ∙ ap (λ (m : ℕ). ltb x (length rows) && (ltb y (length rows) && has m y)) (held x) ∙ go (ltb x (length rows))
+  root-adj x y =
+      ap₂ (λ (a b : Bool). a && (b && has (getD (r .rows) x zero) y)) (below x) (below y)
+      ∙ ap (λ (m : ℕ). ltb x (length rows) && (ltb y (length rows) && has m y)) (held x) ∙ go (ltb x (length rows))
     where
       go : (b : Bool) → (b && (ltb y (length rows) && has (cond b (getD rows x zero) zero) y)) ≡ (b && (ltb y (length rows) && has (getD rows x zero) y))
       go true = refl
@@ -237,7 +239,8 @@ module _ {cap : ℕ} (h r : Node) (u v : ℕ) (p : PairAt cap h u v) where
         to-u false true false false true = refl
         to-u false true false false false = refl
 
-        apart : (xv lx yv ly s t w z : Bool) → ((not xv && lx) && ((not yv && ly) && (s || (lx && t && false)))) ≡ (not xv && (not yv && (lx && (ly && s) || (false && w || false && z))))
+        apart : (xv lx yv ly s t w z : Bool)
+            → ((not xv && lx) && ((not yv && ly) && (s || (lx && t && false)))) ≡ (not xv && (not yv && (lx && (ly && s) || (false && w || false && z))))
         apart true lx yv ly s t w z = refl
         apart false false true ly s t w z = refl
         apart false false false ly s t w z = refl
@@ -301,13 +304,15 @@ module _ {cap : ℕ} (h r : Node) (u v : ℕ) (p : PairAt cap h u v) where
     part-u : (y : ℕ) → has (new u) y ≡ (has (old u) y || eqb y v)
     part-u y =
         ap (λ (l : List ℕ). has (getD l u zero) y) is-rows
-        ∙ ap (λ (m : ℕ). has m y) (getD-set-other (set (h .rows) u ru) v u rv zero differ ∙ getD-set-same (h .rows) u ru zero (omega (arith, p .held .rows-long, p .chosen .live-u .below, p .held .few)))
+        ∙ ap (λ (m : ℕ). has m y) (getD-set-other (set (h .rows) u ru) v u rv zero differ ∙ getD-set-same (h .rows) u ru zero
+        (omega (arith, p .held .rows-long, p .chosen .live-u .below, p .held .few)))
         ∙ is-ru y ∙ ap (λ (t : Bool). has (old u) y || t) (eqb-turn v y)
 
     part-v : (y : ℕ) → has (new v) y ≡ (has (old v) y || eqb y u)
     part-v y =
         ap (λ (l : List ℕ). has (getD l v zero) y) is-rows
-        ∙ ap (λ (m : ℕ). has m y) (getD-set-same (set (h .rows) u ru) v rv zero (lt-length-set (h .rows) u ru (omega (arith, p .held .rows-long, p .chosen .live-v .below, p .held .few))))
+        ∙ ap (λ (m : ℕ). has m y) (getD-set-same (set (h .rows) u ru) v rv zero
+        (lt-length-set (h .rows) u ru (omega (arith, p .held .rows-long, p .chosen .live-v .below, p .held .few))))
         ∙ is-rv y ∙ ap (λ (t : Bool). has (old v) y || t) (eqb-turn u y)
 
     part-other : (x y : ℕ) → x ≢ u → x ≢ v → has (new x) y ≡ has (old x) y
@@ -340,7 +345,8 @@ module _ {cap : ℕ} (h r : Node) (u v : ℕ) (p : PairAt cap h u v) where
     pub separated-is : BecomesAt cap h r (separate u v (view h))
     separated-is = record {
       held = holds cap r (h .n) (separate u v (view h))
-          (ap length is-rows ∙ length-set (set (h .rows) u ru) v rv ∙ length-set (h .rows) u ru ∙ p .held .rows-long) (ap length is-names ∙ p .held .names-long) same (p .held .few) is good lives;
+          (ap length is-rows ∙ length-set (set (h .rows) u ru) v rv ∙ length-set (h .rows) u ru ∙ p .held .rows-long) (ap length is-names ∙ p .held .names-long) same
+          (p .held .few) is good lives;
       same = same;
       is = is;
     }

@@ -137,7 +137,9 @@ module _ {cap : ℕ} (h : Node) (k : HeldAt cap h) where
         climb-w = subst T (q w) (v .member)
 
         lowest-w : lowest (ofW n g H) n ≡ some w
-        lowest-w = lowest-is (ofW n g H) n w (live-of n g w (and-l (live n g w) (all n (λ v. not (has set v) || any n (offers n g H w v))) climb-w) .below) climb-w (λ j c t. v .least j c (subst T (sym (q j)) t))
+        lowest-w =
+            lowest-is (ofW n g H) n w (live-of n g w (and-l (live n g w) (all n (λ v. not (has set v) || any n (offers n g H w v))) climb-w) .below) climb-w
+            (λ j c t. v .least j c (subst T (sym (q j)) t))
 
         pub climb-next : (H′ : Part) → H′ ≡ extend n g H w → Climb H′ (suc b)
         climb-next H′ e = record {

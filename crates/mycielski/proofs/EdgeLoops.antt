@@ -56,9 +56,11 @@ joining-again c near left v out left′ i w q o = record {
   is = λ x y.
       getD-set near v out x (omega (arith, i .wide, w .below)) (λ s. has s y ≡ (done c left′ x && (has c y && not (eqb x y))))
       (λ e. q y ∙ ap (λ (z : ℕ). has c y && not (eqb z y)) e
-      ∙ sym (ap (λ (b : Bool). b && (has c y && not (eqb x y))) (done-more c left v left′ (i .within) w o x ∙ ap (λ (b : Bool). done c left x || b) (eq-eqb v x e) ∙ or-true (done c left x))))
+      ∙ sym (ap (λ (b : Bool). b && (has c y && not (eqb x y)))
+      (done-more c left v left′ (i .within) w o x ∙ ap (λ (b : Bool). done c left x || b) (eq-eqb v x e) ∙ or-true (done c left x))))
       (λ d. i .is x y
-      ∙ sym (ap (λ (b : Bool). b && (has c y && not (eqb x y))) (done-more c left v left′ (i .within) w o x ∙ ap (λ (b : Bool). done c left x || b) (ne-eqb v x d) ∙ or-false (done c left x))));
+      ∙ sym (ap (λ (b : Bool). b && (has c y && not (eqb x y)))
+      (done-more c left v left′ (i .within) w o x ∙ ap (λ (b : Bool). done c left x || b) (ne-eqb v x d) ∙ or-false (done c left x))));
 }
   where
     or-true : (a : Bool) → (a || true) ≡ true

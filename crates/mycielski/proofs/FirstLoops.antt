@@ -73,7 +73,8 @@ module _ (cap live : ℕ) (rows : List ℕ) (c : ℕ) where
       nothing : (x j : ℕ) → 0 < j → has 0 x ≡ (has live x && leb j (count (lacked c x) (upto cap)))
       nothing x j l =
           has-none x ∙ sym (ap (λ (b : Bool). has live x && b)
-          (ap (leb j) (sym (members-count (lacked c x) cap) ∙ ap length (members-none (lacked c x) cap (λ v b t. subst T (done-none c v) (and-l (done c c v) (not (has (getD rows v zero) x)) t))))
+          (ap (leb j) (sym (members-count (lacked c x) cap)
+          ∙ ap length (members-none (lacked c x) cap (λ v b t. subst T (done-none c v) (and-l (done c c v) (not (has (getD rows v zero) x)) t))))
           ∙ lt-leb j 0 l) ∙ none (has live x))
         where
           none : (a : Bool) → (a && false) ≡ false
@@ -164,7 +165,8 @@ module _ {cap : ℕ} (h : Node) (k : HeldAt cap h) (c : ℕ) (verts : Within c (
     not-one : T (has (getD (h .rows) v zero) x) → misses cap (h .rows) c x ≤ 0
     not-one r =
         count-atmost cap (bare x) []
-        (λ y b u. t-not (has (getD (h .rows) y zero) x) (and-r (has c y) (not (has (getD (h .rows) y zero) x)) u) (subst (λ z. T (has (getD (h .rows) z zero) x)) (sym (v-alone y u)) r))
+        (λ y b u. t-not (has (getD (h .rows) y zero) x) (and-r (has c y) (not (has (getD (h .rows) y zero) x)) u)
+        (subst (λ z. T (has (getD (h .rows) z zero) x)) (sym (v-alone y u)) r))
 
   pub first-serving : (v few q s : ℕ) → T (has c v) → IsLess (h .live) (lack .twice) few → IsMeet (lack .once) (getD (h .rows) v zero) q → IsLess few q s
       → (x : ℕ) → has s x ≡ ofS n g H v x
@@ -209,13 +211,15 @@ module _ {cap : ℕ} (h : Node) (k : HeldAt cap h) (c : ℕ) (verts : Within c (
                   in-once : T (has (lack .once) x)
                   in-once =
                       subst T (sym (l .once x)) (and-t (has (h .live) x) (leb 1 (misses cap (h .rows) c x)) lx
-                      (le→leb 1 (misses cap (h .rows) c x) (count-atleast cap (bare x) (y ∷ []) (λ i. i, tt) (λ z i. elim i [ inl a ↦ rw a (small y cy, lack-y) | inr a ↦ absurd a ]))))
+                      (le→leb 1 (misses cap (h .rows) c x)
+                      (count-atleast cap (bare x) (y ∷ []) (λ i. i, tt) (λ z i. elim i [ inl a ↦ rw a (small y cy, lack-y) | inr a ↦ absurd a ]))))
 
                   lack-v : T (bare x v)
                   lack-v =
                       and-t (has c v) (not (has (getD (h .rows) v zero) x)) cv
                       (not-t (has (getD (h .rows) v zero) x)
-                      (λ u. t-not (has q x) (and-r (has few x) (not (has q x)) (subst T (ws x) t)) (subst T (sym (wq x)) (and-t (has (lack .once) x) (has (getD (h .rows) v zero) x) in-once u))))
+                      (λ u. t-not (has q x) (and-r (has few x) (not (has q x)) (subst T (ws x) t))
+                      (subst T (sym (wq x)) (and-t (has (lack .once) x) (has (getD (h .rows) v zero) x) in-once u))))
 
                   both : 2 ≤ misses cap (h .rows) c x
                   both =
@@ -230,17 +234,20 @@ module _ {cap : ℕ} (h : Node) (k : HeldAt cap h) (c : ℕ) (verts : Within c (
           let z : ⊥ = omega (arith, not-two v x cv t) in z))))
           (not-t (has q x) (λ u.
           let r = subst T (wq x) u in
-          let a = leb→le 1 (misses cap (h .rows) c x) (and-r (has (h .live) x) (leb 1 (misses cap (h .rows) c x)) (subst T (l .once x) (and-l (has (lack .once) x) (has (getD (h .rows) v zero) x) r))) in
+          let a = leb→le 1 (misses cap (h .rows) c x)
+          (and-r (has (h .live) x) (leb 1 (misses cap (h .rows) c x)) (subst T (l .once x) (and-l (has (lack .once) x) (has (getD (h .rows) v zero) x) r))) in
           let z : ⊥ = omega (arith, not-one v x cv t (and-r (has (lack .once) x) (has (getD (h .rows) v zero) x) r)) in z)))
 
   -- no member of c is in W, where every vertex lacks some member
   member-not : lack .once ≡ h .live → (w : ℕ) → T (has c w) → ¬ T (ofW n g H w)
   member-not e w cw t =
       let b = live-below h k w (verts w cw) in
-      let a = imp-get (has c w) (any n (offers n g H w w)) (all-get n (λ v. not (has c v) || any n (offers n g H w v)) (and-r (live n g w) (all n (λ v. not (has c v) || any n (offers n g H w v))) t) w b) cw in
+      let a = imp-get (has c w) (any n (offers n g H w w))
+      (all-get n (λ v. not (has c v) || any n (offers n g H w v)) (and-r (live n g w) (all n (λ v. not (has c v) || any n (offers n g H w v))) t) w b) cw in
       let r = any-get n (offers n g H w w) a in
       let s = and-l (ofS n g H w (r .0)) (g .adj w (r .0)) (r .2) in
-      let near = and-r (has (h .live) (r .0)) (has (getD (h .rows) w zero) (r .0)) (and-r (has (h .live) w) (has (h .live) (r .0) && has (getD (h .rows) w zero) (r .0)) (and-r (ofS n g H w (r .0)) (g .adj w (r .0)) (r .2))) in
+      let near = and-r (has (h .live) (r .0)) (has (getD (h .rows) w zero) (r .0))
+      (and-r (has (h .live) w) (has (h .live) (r .0) && has (getD (h .rows) w zero) (r .0)) (and-r (ofS n g H w (r .0)) (g .adj w (r .0)) (r .2))) in
       let one = leb→le 1 (misses cap (h .rows) c (r .0)) (and-r (has (h .live) (r .0)) (leb 1 (misses cap (h .rows) c (r .0)))
       (subst T (l .once (r .0)) (subst (λ m. T (has m (r .0))) (sym e) (live-x w (r .0) cw s)))) in
       let z : ⊥ = omega (arith, not-one w (r .0) cw s near) in

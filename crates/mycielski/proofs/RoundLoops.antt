@@ -48,7 +48,8 @@ module _ {cap : ℕ} (h : Node) (k : HeldAt cap h) (p : Sub) (ins : Among (h .li
               let a = and-l (has s x) (has (getD (h .rows) w zero) x) u in
               and-t (ofS n g H v x) (g .adj w x) (subst T (e x) a)
               (and-t (has (h .live) w) (has (h .live) x && has (getD (h .rows) w zero) x) live-w
-              (and-t (has (h .live) x) (has (getD (h .rows) w zero) x) (serving-live h k (p .set) (H .edge) (ins .verts) v s e x a) (and-r (has s x) (has (getD (h .rows) w zero) x) u)))
+              (and-t (has (h .live) x) (has (getD (h .rows) w zero) x) (serving-live h k (p .set) (H .edge) (ins .verts) v s e x a)
+              (and-r (has s x) (has (getD (h .rows) w zero) x) u)))
 
           back : T (offers n g H w v x) → T (has m x)
           back t =
@@ -69,7 +70,8 @@ module _ {cap : ℕ} (h : Node) (k : HeldAt cap h) (p : Sub) (ins : Among (h .li
       pub chosen-is : (u : ℕ) → IsLowest cap m u → chosen n g H w v ≡ u
       chosen-is u l =
           ap (λ (o : Option ℕ). Option·getD o zero)
-          (lowest-is (offers n g H w v) n u (live-below h k u (serving-live h k (p .set) (H .edge) (ins .verts) v s e u (and-l (has s u) (has (getD (h .rows) w zero) u) (subst T (q u) (l .member)))))
+          (lowest-is (offers n g H w v) n u
+          (live-below h k u (serving-live h k (p .set) (H .edge) (ins .verts) v s e u (and-l (has s u) (has (getD (h .rows) w zero) u) (subst T (q u) (l .member)))))
           (subst T (offers-is u) (l .member)) (λ j b t. l .least j b (subst T (sym (offers-is j)) t)))
 
     pub record Extending (next : Sub) (left : ℕ) : Type 0 where
@@ -84,7 +86,9 @@ module _ {cap : ℕ} (h : Node) (k : HeldAt cap h) (p : Sub) (ins : Among (h .li
       wide = l;
       within = λ x t. t;
       verts = λ x.
-          q x ∙ ap (λ (b : Bool). has (p .set) x || b) (eqb-turn w x ∙ sym (or-false (eqb x w)) ∙ ap (λ (b : Bool). eqb x w || b) (sym (any-none n (λ v. done (p .set) (p .set) v) (λ v. eqb x (chosen n g H w v)) (done-none (p .set)))));
+          q x ∙ ap (λ (b : Bool). has (p .set) x || b)
+          (eqb-turn w x ∙ sym (or-false (eqb x w)) ∙ ap (λ (b : Bool). eqb x w || b)
+          (sym (any-none n (λ v. done (p .set) (p .set) v) (λ v. eqb x (chosen n g H w v)) (done-none (p .set)))));
       edges = λ x y.
           sym (ap (λ (b : Bool). has (getD (p .near) x zero) y || b)
           (any-none n (λ v. done (p .set) (p .set) v) (λ v. tied n g H w v x y || tied n g H w v y x) (done-none (p .set))) ∙ or-false (has (getD (p .near) x zero) y));
@@ -107,7 +111,8 @@ module _ {cap : ℕ} (h : Node) (k : HeldAt cap h) (p : Sub) (ins : Among (h .li
       verts = λ x.
           a x ∙ ap₂ (λ (a b : Bool). a || b) (i .verts x) (eqb-turn u x ∙ ap (eqb x) (sym is))
           ∙ three (has (p .set) x) (eqb x w) (any n (λ z. done (p .set) left z && eqb x (chosen n g H w z))) (eqb x (chosen n g H w v))
-          ∙ ap (λ (b : Bool). has (p .set) x || (eqb x w || b)) (sym (any-more n (λ z. done (p .set) left z) (λ z. done (p .set) left′ z) (λ z. eqb x (chosen n g H w z)) v below more));
+          ∙ ap (λ (b : Bool). has (p .set) x || (eqb x w || b))
+          (sym (any-more n (λ z. done (p .set) left z) (λ z. done (p .set) left′ z) (λ z. eqb x (chosen n g H w z)) v below more));
       edges = λ x y.
           t .is x y
           ∙ ap₂ (λ (a b : Bool). a || b) (i .edges x y) (ap₂ (λ (a b : Bool). a || b) (tie x y) (tie y x))

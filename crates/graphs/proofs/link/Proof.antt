@@ -15,7 +15,8 @@ use Rattle.graphs.proofs.link.Statement.{statement}
 use Rattle.graphs.proofs.link.Tie as tie
 
 abbrev Inv-loop : tie.InvT-loop
-Inv-loop rows₀ u s left₀ rows left = (length rows ≡ length rows₀) × ((x y : ℕ) → (has (getD rows x 0) y || (has left x && eqb u y)) ≡ (has (getD rows₀ x 0) y || (has s x && eqb u y)))
+Inv-loop rows₀ u s left₀ rows left =
+    (length rows ≡ length rows₀) × ((x y : ℕ) → (has (getD rows x 0) y || (has left x && eqb u y)) ≡ (has (getD rows₀ x 0) y || (has s x && eqb u y)))
 
 abbrev μ-loop : tie.MeasureT-loop
 μ-loop rows₀ u s left₀ rows left = size 64 left

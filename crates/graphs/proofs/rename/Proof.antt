@@ -20,8 +20,12 @@ abbrev μ-loop : tie.MeasureT-loop
 μ-loop names₀ u v i₀ names i = 64 - i
 
 loop-holds : tie.Need-loop-holds Inv-loop μ-loop
-loop-holds c =
-    (search needs, search needs, λ k. ap (λ (t : Bool). cond t (getD (c .args .names .now) k 0) (to (c .args .u) (c .args .v) (getD (c .args .names .now) k 0))) (le-ltb k 0 (omega arith)))
+loop-holds c = (
+  search needs,
+  search needs,
+  λ k. ap (λ (t : Bool). cond t (getD (c .args .names .now) k 0) (to (c .args .u) (c .args .v) (getD (c .args .names .now) k 0)))
+      (le-ltb k 0 (omega arith)),
+)
 
 element-copy-out-renamed : tie.Need-element-copy-out-renamed Inv-loop μ-loop
 element-copy-out-renamed c = search needs
