@@ -11,9 +11,11 @@ use Rattle.sets.specs.Lists.{bit, put}
 use Rattle.lines.specs.Numeral.{numeral, oneLine}
 use Rattle.lines.proofs.Basics.{from}
 use Rattle.lines.proofs.Writing.{one-length, length-one, length-2}
+use Rattle.lists.specs.Read.{mostEntries, longestText}
 use Rattle.sheets.specs.Check.{groupsWord, sizeWord}
-use Rattle.clashes.specs.Divisions.{groups}
+use Rattle.clashes.specs.Divisions.{Canon, groups}
 use Rattle.sheet_texts.specs.Sheet.{membersOf, memberLines, groupText, groupsText, sheetText}
+use Rattle.sheet_texts.proofs.FirstUse.{groups-fit}
 
 -- ---- one entry
 
@@ -99,3 +101,6 @@ pub sheet-short : (c : List ℕ) → length c ≤ 64 → groups 0 c ≤ 64 → l
 unfolding sheetText
 sheet-short c h k =
     omega (arith, length-append (oneLine groupsWord (groups 0 c)) (groupsText c 0 (groups 0 c)), line-short groupsWord (groups 0 c) (omega arith), groups-short c 0 (groups 0 c) h, total-le c 0 0 (groups 0 c))
+
+pub sheet-fits : (c : List ℕ) → Canon 0 c → length c ≤ mostEntries → length (sheetText c) ≤ longestText
+sheet-fits c canon h = let f = groups-fit 0 c canon in omega (arith, sheet-short c h (omega arith))
