@@ -32,7 +32,7 @@ use Rattle.sheet_texts.specs.declared.Numbering.{Numbering}
 use Rattle.sheet_texts.specs.declared.Numbering.the-variants.{Used, Wrong}
 use Rattle.sheet_texts.specs.declared.Written.the-variants.{Length, Many, Full}
 use Rattle.sheet_texts.proofs.FirstUse.{used-is}
-use Rattle.sheet_texts.proofs.Members.{sheet-fits}
+use Rattle.sheet_texts.proofs.Lengths.{sheet-fits, sheet-most}
 use Rattle.sheet_texts.proofs.ReadBack.{found, sheet-up-to-read}
 use Rattle.sheet_texts.proofs.FirstClash.{free-none, clash-some}
 
@@ -54,20 +54,24 @@ module _ (most : ℕ) where
   pub record Wrote (c : List ℕ) (k : ℕ) (out : List ℕ) : Type 0 where
     pub canon : Canon 0 c
     pub few : length c ≤ most
+    pub long : k ≡ length (sheetText c)
     pub text : take k out ≡ sheetText c
 
   pub wrote-is : (c old : List ℕ) (k : ℕ) (out : List ℕ) → WritePromiseUpTo most c old (Length k) out → Wrote c k out
   wrote-is c old k out w = go (leb (length c) most) refl (w .answer) (w .lent)
     where
-      fits : (b : Bool) → Length k ≡ cond b (Length (length (sheetText c))) Full → out ≡ written (cond b (Length (length (sheetText c))) Full) (sheetText c) old → take k out ≡ sheetText c
+      fits : (b : Bool) → Length k ≡ cond b (Length (length (sheetText c))) Full → out ≡ written (cond b (Length (length (sheetText c))) Full) (sheetText c) old
+          → (k ≡ length (sheetText c)) × (take k out ≡ sheetText c)
       fits true a l =
           let e : k ≡ length (sheetText c) = cc in
-          ap (take k) l ∙ take-at (sheetText c) (drop (0 + length (sheetText c)) old) k (sym e)
+          (e, ap (take k) l ∙ take-at (sheetText c) (drop (0 + length (sheetText c)) old) k (sym e))
       fits false a l = let z : _≡_ {A = ℕ} 0 1 = cc in absurd (omega arith)
 
       numbered : length c ≤ most → (v : Numbering) → numbering c ≡ v → Length k ≡ judged v (sheetText c) (length old) → out ≡ written (judged v (sheetText c) (length old)) (sheetText c) old → Wrote c k out
       numbered h (Wrong i) e a l = let z : _≡_ {A = ℕ} 0 1 = cc in absurd (omega arith)
-      numbered h (Used m) e a l = record { canon = used-is 0 0 c m e .0; few = h; text = fits (leb (length (sheetText c)) (length old)) a l }
+      numbered h (Used m) e a l =
+          let f = fits (leb (length (sheetText c)) (length old)) a l in
+          record { canon = used-is 0 0 c m e .0; few = h; long = f .0; text = f .1 }
 
       go : (b : Bool) → leb (length c) most ≡ b → Length k ≡ cond b (judged (numbering c) (sheetText c) (length old)) Many
           → out ≡ written (cond b (judged (numbering c) (sheetText c) (length old)) Many) (sheetText c) old → Wrote c k out
@@ -145,6 +149,10 @@ list-valid = list-up-to-valid mostEntries longestText
 pub checked-is : (list : List ℕ) (n : ℕ) → readOf list mostEntries .answer ≡ Read n → (s : List ℕ) (room : ℕ) → n ≤ room
     → checkOf list s room ≡ sheetOf n (matrix (readOf list mostEntries .rows)) s
 checked-is = checked-up-to-is mostEntries longestText
+
+-- the C header's figure
+pub write-most : (c old : List ℕ) (k : ℕ) (out : List ℕ) → WritePromise c old (Length k) out → k ≤ 641
+write-most c old k out w = let x = wrote-is mostEntries c old k out w in omega (arith, x .long, sheet-most c (x .canon) (x .few))
 
 module _ (c old : List ℕ) (k : ℕ) (out list lent : List ℕ) (a : Checked) (new : List ℕ) (w : WritePromise c old (Length k) out)
     (x : CheckPromise list (take k out) lent a new) (e : readOf list mostEntries .answer ≡ Read (length c)) (room : length c ≤ length lent) where

@@ -33,7 +33,7 @@ use Rattle.sheets.specs.declared.Checked.the-variants.{Accepted}
 use Rattle.sheet_texts.specs.Sheet.{sheetText}
 use Rattle.sheet_texts.specs.Promise.{WritePromiseUpTo, WritePromise}
 use Rattle.sheet_texts.specs.declared.Written.the-variants.{Length}
-use Rattle.sheet_texts.proofs.Members.{sheet-fits}
+use Rattle.sheet_texts.proofs.Lengths.{sheet-fits}
 use Rattle.sheet_texts.proofs.Calls.{calls-up-to-free}
 
 -- ---- with as many rows lent as a list can have, it is read as with fewer that were enough

@@ -36,7 +36,8 @@ use Rattle.sheets.specs.declared.Step.the-variants.{Stop, Count, Place}
 use Rattle.sheets.proofs.Steps.{at-member, at-size, at-groups}
 use Rattle.sheet_texts.specs.Sheet.{membersOf, memberLines, groupText, groupsText, sheetText, clashIn, orElse, clashFrom, clashLine}
 use Rattle.sheet_texts.proofs.FirstUse.{groups-fit}
-use Rattle.sheet_texts.proofs.Members.{members-le, sheet-fits}
+use Rattle.sheet_texts.proofs.Members.{members-le}
+use Rattle.sheet_texts.proofs.Lengths.{sheet-fits}
 use Rattle.sheet_texts.proofs.Groups.{Rising, rising-from, Led, group-led, members-risen, member-of, of-member}
 
 abbrev pub found : ℕ → Option ℕ → Outcome → Outcome
