@@ -8,7 +8,7 @@
 --   span w i n      : the sum of w over i to i + n - 1
 --   total w c i g k : the sum of w over the members of k groups from group g on, among c, of which the first is entry i's
 use Prim.Native.Nat.{ℕ, zero, suc, _+_, _*_, _≤_, _<_}
-use mathlib.Core.Path.{_≡_, refl, ap}
+use mathlib.Core.Path.{_≡_, refl, ap, subst}
 use mathlib.Core.List.{List, [], _∷_}
 use mathlib.Core.Bool.{Bool, true, false}
 use native.Mathlib.Decide.{decLe}
@@ -118,7 +118,8 @@ pub sheet-most : (c : List ℕ) → Canon 0 c → length c ≤ 64 → length (sh
 sheet-most c canon h =
     let k = groups 0 c in
     let f = groups-fit 0 c canon in
-    omega (arith, sheet-cost c canon, one-length groupsWord k, two-digits k (omega arith), span-more cost 0 (length c) 64 h, span-64)
+    let s : span cost 0 (length c) ≤ 631 = subst (λ (x : ℕ). span cost 0 (length c) ≤ x) span-64 (span-more cost 0 (length c) 64 h) in
+    omega (arith, sheet-cost c canon, one-length groupsWord k, two-digits k (omega arith))
 
 -- so long is the sheet of 64 entries that are alone
 longest : length (sheetText (table (λ i. i) 64)) ≡ 641
