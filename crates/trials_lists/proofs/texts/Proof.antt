@@ -40,8 +40,8 @@ returns c = search needs
 enum-known-room : tie.Need-enum-known-room Inv-loop μ-loop
 enum-known-room c = search needs
 
-put-number-requires : tie.Need-put-number-requires Inv-loop μ-loop
-put-number-requires c κs = search needs
+put-word-requires : tie.Need-put-word-requires Inv-loop μ-loop
+put-word-requires c κs = search needs
 
 slice-aggregate-put-2 : tie.Need-slice-aggregate-put-2 Inv-loop μ-loop
 slice-aggregate-put-2 c = search needs
@@ -95,7 +95,7 @@ texts-spec =
     put-requires
     returns
     enum-known-room
-    put-number-requires
+    put-word-requires
     slice-aggregate-put-2
     put-requires-2
     sevens-requires

@@ -42,8 +42,8 @@ returns c = search needs
 enum-known-room : tie.Need-enum-known-room Inv-loop μ-loop
 enum-known-room c = search needs
 
-print-decimal-requires : tie.Need-print-decimal-requires Inv-loop μ-loop
-print-decimal-requires c κs = search needs
+put-word-requires : tie.Need-put-word-requires Inv-loop μ-loop
+put-word-requires c κs = search needs
 
 slice-aggregate-put-2 : tie.Need-slice-aggregate-put-2 Inv-loop μ-loop
 slice-aggregate-put-2 c = search needs
@@ -106,7 +106,7 @@ pairs-spec =
     put-requires
     returns
     enum-known-room
-    print-decimal-requires
+    put-word-requires
     slice-aggregate-put-2
     put-requires-2
     unset-requires

@@ -14,8 +14,8 @@ numbers-of-requires c κs = search needs
 put-written-requires : tie.Need-put-written-requires
 put-written-requires c κs = search needs
 
-put-kept-requires : tie.Need-put-kept-requires
-put-kept-requires c κs = search needs
+put-kept-bytes-requires : tie.Need-put-kept-bytes-requires
+put-kept-bytes-requires c κs = search needs
 
 slice-reshare-prefix-put : tie.Need-slice-reshare-prefix-put
 slice-reshare-prefix-put c = search needs
@@ -51,7 +51,7 @@ write-spec =
     write-sheet-requires
     numbers-of-requires
     put-written-requires
-    put-kept-requires
+    put-kept-bytes-requires
     slice-reshare-prefix-put
     slice-aggregate-put
     put-requires
