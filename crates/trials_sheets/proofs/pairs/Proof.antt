@@ -19,7 +19,9 @@ abbrev μ-loop : tie.MeasureT-loop
 known : (c : tie.After-known-told Inv-loop μ-loop) →
     let r = c .before .room .given .0 in
     Within (c .before .before .before .before .before .loop .at) (length (c .before .before .before .before .before .before .before .args .file .now)) (Both (r .0) (r .1 .0) (r .1 .1 .0) (r .1 .1 .1 .0))
-known c = subst (Within (c .before .before .before .before .before .loop .at) (length (c .before .before .before .before .before .before .before .args .file .now))) (c .before .room .given .1) (c .before .before .before .find .ensures)
+known c =
+    subst (Within (c .before .before .before .before .before .loop .at) (length (c .before .before .before .before .before .before .before .args .file .now)))
+    (c .before .room .given .1) (c .before .before .before .find .ensures)
 
 loop-holds : tie.Need-loop-holds Inv-loop μ-loop
 loop-holds c = search needs
@@ -76,7 +78,10 @@ array-borrow-prefix-lent : tie.Need-array-borrow-prefix-lent Inv-loop μ-loop
 array-borrow-prefix-lent c = let k = known (c .before .before .before .before .before .before) in omega arith
 
 slice-aggregate-trial : tie.Need-slice-aggregate-trial Inv-loop μ-loop
-slice-aggregate-trial c = let k = known (c .before .before .before .before .before .before .before) in sym (length-take-le (c .before .before .before .before .before .before .before .before .room .given .0 .0) (c .before .before .before .unset .result) (omega (arith, c .before .before .before .unset .ensures)))
+slice-aggregate-trial c =
+    let k = known (c .before .before .before .before .before .before .before) in
+    sym (length-take-le (c .before .before .before .before .before .before .before .before .room .given .0 .0) (c .before .before .before .unset .result)
+    (omega (arith, c .before .before .before .unset .ensures)))
 
 trial-requires : tie.Need-trial-requires Inv-loop μ-loop
 trial-requires c κs = search needs

@@ -21,7 +21,9 @@ slice-reshare-prefix-put : tie.Need-slice-reshare-prefix-put
 slice-reshare-prefix-put c = search needs
 
 slice-aggregate-put : tie.Need-slice-aggregate-put
-slice-aggregate-put c = sym (length-take-le (c .before .before .before .before .before .before .numbers-of .result .length) (c .before .before .before .before .before .before .before .before .before .write-sheet .last .1 .0) (c .before .if2 .taken))
+slice-aggregate-put c =
+    sym (length-take-le (c .before .before .before .before .before .before .numbers-of .result .length)
+    (c .before .before .before .before .before .before .before .before .before .write-sheet .last .1 .0) (c .before .if2 .taken))
 
 put-requires : tie.Need-put-requires
 put-requires c κs = search needs
