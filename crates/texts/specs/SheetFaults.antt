@@ -1,83 +1,122 @@
--- The refusals of a sheet in document 01's words, over its lines as they stand.
+-- The refusals of a sheet in document 01's words, over its lines as they stand. What a line has to be depends on what those before it say.
 --
---   Group, Groups     : a group's stated size and its members so far, by their numbers in the text, latest first; groups, latest first
---   laid k gs         : the lines "groups K", "size S" and members that say just this, latest first
---   before t i        : the first i lines of t, latest first
+--   Kind, kindAt t k  : what a line says, whatever its place: "groups K", "size S", one member, or none of these; of line k, counted from 1
+--   Group             : a stated size and the members so far, by their numbers in the text, latest first
+--   Saying            : what lines can say: nothing, there being none; or K and the groups so far, latest first
+--   laid x            : the kinds of the lines that say x, latest first
+--   before t i        : the kinds of the first i lines of t, latest first
 --   needOf gs         : members of the latest group still to come
---   MemberPlace, SizePlace, OverPlace : what the next line has to be: a member; a size; there is no line any more
---   floorOf gs        : what the next member has to be above: the one before it in its group, or the previous group's first (0: none)
+--   GroupsPlace x, SizePlace x, MemberPlace x, OverPlace x : after lines that say x comes "groups K", a size, a member, or no line any more
+--   floorOf gs        : what the next member has to be above: the member before it in its group, or the previous group's first (0: none)
 --   nowOf gs, earlierOf gs : the latest group's members; the groups before it
---   Fits, Fine        : a member that has no fault; no line of those that say gs has any
---   HasAt n clash k gs l cut f : the line l has the fault f after lines that say k and gs; cut says that it is not ended
---   SheetRefusedAt n clash t f k : the sheet is refused with f at line k: the first line that has a fault, and its first in the order; or at the end
+--   HasAt n clash t k x f : line k has the fault numbered f, where the lines before it say x
+--   Has n clash t k f : the same, where they say anything at all
+--   sheetOrder        : the order within a line
+--   Lacks n t f       : at the end, the lines t have the fault numbered f
+--   SheetRefused longest n clash s f k : the sheet s is refused with the number f and the line k
 --
 -- Assumes nothing.
-use Prim.Native.Nat.{ℕ, zero, suc, _+_, _-_, _≤_, _<_}
+use Prim.Native.Nat.{ℕ, zero, suc, _-_, _≤_, _<_}
 use mathlib.Core.Path.{_≡_}
 use mathlib.Core.Logic.{_⊎_}
-use mathlib.Core.List.{List, [], _∷_, _++_}
-use mathlib.Core.Bool.{Bool, true, false}
-use lib.Dec.{T}
+use mathlib.Core.List.{List, [], _∷_}
+use mathlib.Core.Bool.{Bool}
+use lib.Dec.{T, eqb}
 use lib.ListN.{length}
 use Rattle.sets.specs.Lists.{In}
-use Rattle.lines.specs.Text.{Text, lineNo}
+use Rattle.refusals.specs.Table.{numberOf, If}
+use Rattle.refusals.specs.declared.Refusal.the-variants.{SheetLine, Member, Order, Twice, Clash, Ends, Missing, Extra}
+use Rattle.lines.specs.Text.{Text, linesOf, lineNo}
 use Rattle.lines.specs.Words.{aloneOf}
-use Rattle.lines.specs.Numeral.{numeral}
 use Rattle.lines.specs.declared.Alone.{Alone}
 use Rattle.lines.specs.declared.Alone.the-variants.{Only, Other}
-use Rattle.lists.proofs.Lines.{lineCount, Within}
+use Rattle.lists.proofs.Lines.{lineCount}
 use Rattle.sheets.specs.Check.{groupsWord, sizeWord, behindOf}
-use Rattle.sheets.specs.declared.SheetFault.{SheetFault}
-use Rattle.sheets.specs.declared.SheetFault.the-variants.{Long, Line, Member, Order, Twice, Clash, Ends, Missing, Extra}
-use Rattle.texts.specs.ListFaults.{Unended, Outside}
+use Rattle.texts.specs.Faults.{Unended, Outside, Refusal}
+
+-- ---- what a line says
+
+pub data Kind : Type 0 where
+  groupsLine : ℕ → Kind
+  sizeLine : ℕ → Kind
+  memberLine : ℕ → Kind
+  noLine : Kind
+
+-- the kind of a number that is found, else what else it is
+abbrev pub found : Alone → (ℕ → Kind) → Kind → Kind
+found (Only v) kind else = kind v
+found Other kind else = else
+
+abbrev pub kindOf : List ℕ → Kind
+kindOf l = found (behindOf groupsWord l) groupsLine (found (behindOf sizeWord l) sizeLine (found (aloneOf l) memberLine noLine))
+
+abbrev pub kindAt : Text → ℕ → Kind
+kindAt t zero = noLine
+kindAt t (suc i) = kindOf (lineNo t i)
+
+-- ---- what lines say
 
 pub record Group : Type 0 where
   pub size : ℕ
   pub members : List ℕ
 
-abbrev pub Groups : Type 0
-Groups = List Group
+pub data Saying : Type 0 where
+  nothing : Saying
+  says : ℕ → List Group → Saying
 
--- ---- lines
+abbrev pub groupsOf : Saying → List Group
+groupsOf nothing = []
+groupsOf (says k gs) = gs
 
-abbrev pub laidGroup : ℕ → List ℕ → List (List ℕ) → List (List ℕ)
-laidGroup s [] rest = (sizeWord ++ numeral s) ∷ rest
-laidGroup s (u ∷ us) rest = numeral u ∷ laidGroup s us rest
+abbrev pub laidGroup : ℕ → List ℕ → List Kind → List Kind
+laidGroup s [] rest = sizeLine s ∷ rest
+laidGroup s (u ∷ us) rest = memberLine u ∷ laidGroup s us rest
 
-abbrev pub laid : ℕ → Groups → List (List ℕ)
-laid k [] = (groupsWord ++ numeral k) ∷ []
-laid k (g ∷ gs) = laidGroup (g .size) (g .members) (laid k gs)
+abbrev pub laidGroups : ℕ → List Group → List Kind
+laidGroups k [] = groupsLine k ∷ []
+laidGroups k (g ∷ gs) = laidGroup (g .size) (g .members) (laidGroups k gs)
 
-abbrev pub before : Text → ℕ → List (List ℕ)
+abbrev pub laid : Saying → List Kind
+laid nothing = []
+laid (says k gs) = laidGroups k gs
+
+abbrev pub before : Text → ℕ → List Kind
 before t zero = []
-before t (suc i) = lineNo t i ∷ before t i
+before t (suc i) = kindAt t (suc i) ∷ before t i
 
 -- ---- places
 
-abbrev pub needOf : Groups → ℕ
+abbrev pub needOf : List Group → ℕ
 needOf [] = 0
 needOf (g ∷ gs) = g .size - length (g .members)
 
-abbrev pub MemberPlace : Groups → Type 0
-MemberPlace gs = 1 ≤ needOf gs
+abbrev pub GroupsPlace : Saying → Type 0
+GroupsPlace nothing = Unit {0}
+GroupsPlace (says k gs) = ⊥
 
-abbrev pub SizePlace : ℕ → Groups → Type 0
-SizePlace k gs = (needOf gs < 1) × (length gs < k)
+abbrev pub MemberPlace : Saying → Type 0
+MemberPlace nothing = ⊥
+MemberPlace (says k gs) = 1 ≤ needOf gs
 
-abbrev pub OverPlace : ℕ → Groups → Type 0
-OverPlace k gs = (needOf gs < 1) × (k ≤ length gs)
+abbrev pub SizePlace : Saying → Type 0
+SizePlace nothing = ⊥
+SizePlace (says k gs) = (needOf gs < 1) × (length gs < k)
+
+abbrev pub OverPlace : Saying → Type 0
+OverPlace nothing = ⊥
+OverPlace (says k gs) = (needOf gs < 1) × (k ≤ length gs)
 
 -- the first of members that are given latest first
 abbrev pub earliest : ℕ → List ℕ → ℕ
 earliest v [] = v
 earliest v (w ∷ us) = earliest w us
 
--- the latest group's first, of the groups that have one
 abbrev pub firstIn : List ℕ → ℕ → ℕ
 firstIn [] f = f
 firstIn (v ∷ us) f = earliest v us
 
-abbrev pub firstOf : Groups → ℕ
+-- the first of the latest group that has one
+abbrev pub firstOf : List Group → ℕ
 firstOf [] = 0
 firstOf (g ∷ gs) = firstIn (g .members) (firstOf gs)
 
@@ -85,116 +124,75 @@ abbrev pub floorIn : List ℕ → ℕ → ℕ
 floorIn [] f = f
 floorIn (v ∷ us) f = v
 
-abbrev pub floorOf : Groups → ℕ
+abbrev pub floorOf : List Group → ℕ
 floorOf [] = 0
 floorOf (g ∷ gs) = floorIn (g .members) (firstOf gs)
 
-abbrev pub nowOf : Groups → List ℕ
+abbrev pub nowOf : List Group → List ℕ
 nowOf [] = []
 nowOf (g ∷ gs) = g .members
 
-abbrev pub earlierOf : Groups → Groups
+abbrev pub earlierOf : List Group → List Group
 earlierOf [] = []
 earlierOf (g ∷ gs) = gs
 
-abbrev pub StandsIn : Groups → ℕ → Type 0
+abbrev pub StandsIn : List Group → ℕ → Type 0
 StandsIn [] u = ⊥
 StandsIn (g ∷ gs) u = In u (g .members) ⊎ StandsIn gs u
 
--- ---- faults
+-- ---- faults of a line
 
--- v is a member before u in its group, and they clash
+-- v is a member before u in its group, and they clash; entries count from 0 in the list
 abbrev pub ClashIn : (ℕ → ℕ → Bool) → List ℕ → ℕ → Type 0
 ClashIn clash us u = (v : ℕ) × In v us × T (clash (u - 1) (v - 1))
 
--- the line l is no line of the kind that its place asks for; a size is at least 1
-abbrev pub Misshaped : ℕ → Groups → List ℕ → Type 0
-Misshaped k gs l = (MemberPlace gs × (aloneOf l ≡ Other)) ⊎ (SizePlace k gs × ((behindOf sizeWord l ≡ Other) ⊎ (behindOf sizeWord l ≡ Only 0)))
+-- a line of this kind is not what comes after x; a size is at least 1
+abbrev pub Misshaped : Saying → Kind → Type 0
+Misshaped x kind =
+    (GroupsPlace x × ((k : ℕ) → ¬ (kind ≡ groupsLine k)))
+    ⊎ (SizePlace x × ((s : ℕ) → 1 ≤ s → ¬ (kind ≡ sizeLine s)))
+    ⊎ (MemberPlace x × ((u : ℕ) → ¬ (kind ≡ memberLine u)))
 
-abbrev pub HasAt : ℕ → (ℕ → ℕ → Bool) → ℕ → Groups → List ℕ → Type 0 → SheetFault → Type 0
--- wrong shape for this place, or not ended
-HasAt n clash k gs l cut Line = Misshaped k gs l ⊎ (cut × ¬ OverPlace k gs)
--- a member outside 1 to n; not above the member before it, or the previous group's first; in an earlier group; clashes with an earlier one of its group
-HasAt n clash k gs l cut Member = (u : ℕ) × MemberPlace gs × (aloneOf l ≡ Only u) × Outside n u
-HasAt n clash k gs l cut Order = (u : ℕ) × MemberPlace gs × (aloneOf l ≡ Only u) × (u ≤ floorOf gs)
-HasAt n clash k gs l cut Twice = (u : ℕ) × MemberPlace gs × (aloneOf l ≡ Only u) × StandsIn (earlierOf gs) u
-HasAt n clash k gs l cut Clash = (u : ℕ) × MemberPlace gs × (aloneOf l ≡ Only u) × ClashIn clash (nowOf gs) u
--- a line after the last group
-HasAt n clash k gs l cut Extra = OverPlace k gs
-HasAt n clash k gs l cut Ends = ⊥
-HasAt n clash k gs l cut Missing = ⊥
-HasAt n clash k gs l cut Long = ⊥
+-- line k is the member u
+abbrev pub MemberAt : Text → ℕ → Saying → ℕ → Type 0
+MemberAt t k x u = MemberPlace x × (kindAt t k ≡ memberLine u)
 
--- 30 to 34; where 37 is, there is no other
-abbrev pub rank : SheetFault → ℕ
-rank Line = 0
-rank Member = 1
-rank Order = 2
-rank Twice = 3
-rank Clash = 4
-rank Extra = 5
-rank Ends = 6
-rank Missing = 7
-rank Long = 8
+abbrev pub HasAt : ℕ → (ℕ → ℕ → Bool) → Text → ℕ → Saying → ℕ → Type 0
+HasAt n clash t k x f =
+    -- wrong shape for this place, or last line unended
+    If (eqb f (numberOf SheetLine)) (Misshaped x (kindAt t k) ⊎ (Unended t k × ¬ OverPlace x))
+    -- member outside 1 to n
+    (If (eqb f (numberOf Member)) ((u : ℕ) × MemberAt t k x u × Outside n u)
+    -- not above the member before it in its group, or a group's first not above the previous group's first
+    (If (eqb f (numberOf Order)) ((u : ℕ) × MemberAt t k x u × (u ≤ floorOf (groupsOf x)))
+    -- member stands in an earlier group
+    (If (eqb f (numberOf Twice)) ((u : ℕ) × MemberAt t k x u × StandsIn (earlierOf (groupsOf x)) u)
+    -- member clashes with an earlier one of its group
+    (If (eqb f (numberOf Clash)) ((u : ℕ) × MemberAt t k x u × ClashIn clash (nowOf (groupsOf x)) u)
+    -- a line after the last group, ended or not
+    (If (eqb f (numberOf Extra)) (OverPlace x)
+    ⊥)))))
 
-pub record Fits (n : ℕ) (clash : ℕ → ℕ → Bool) (u : ℕ) (us : List ℕ) (gs : Groups) : Type 0 where
-  pub entry : (1 ≤ u) × (u ≤ n)
-  pub above : floorIn us (firstOf gs) < u
-  pub once : ¬ StandsIn gs u
-  pub free : ¬ ClashIn clash us u
+abbrev pub Has : ℕ → (ℕ → ℕ → Bool) → Text → ℕ → ℕ → Type 0
+Has n clash t zero f = ⊥
+Has n clash t (suc i) f = (x : Saying) × (before t i ≡ laid x) × HasAt n clash t (suc i) x f
 
-abbrev pub FineGroup : ℕ → (ℕ → ℕ → Bool) → ℕ → List ℕ → Groups → Type 0
-FineGroup n clash s [] gs = (1 ≤ s) × (needOf gs < 1)
-FineGroup n clash s (u ∷ us) gs = (length us < s) × Fits n clash u us gs × FineGroup n clash s us gs
+-- where 37 is, there is no other
+abbrev pub sheetOrder : List ℕ
+sheetOrder = 30 ∷ 31 ∷ 32 ∷ 33 ∷ 34 ∷ 37 ∷ []
 
-abbrev pub Fine : ℕ → (ℕ → ℕ → Bool) → Groups → Type 0
-Fine n clash [] = Unit {0}
-Fine n clash (g ∷ gs) = FineGroup n clash (g .size) (g .members) gs × Fine n clash gs
+-- ---- faults at the end
 
--- ---- the refusals
+abbrev pub LacksAt : ℕ → Saying → ℕ → Type 0
+LacksAt n x f =
+    -- sheet empty, or ends before its counts are met
+    If (eqb f (numberOf Ends)) (¬ OverPlace x)
+    -- all counts met, an entry absent
+    (If (eqb f (numberOf Missing)) (OverPlace x × ((u : ℕ) × (1 ≤ u) × (u ≤ n) × ¬ StandsIn (groupsOf x) u))
+    ⊥)
 
--- the first i lines of t say that there are k groups, and the groups gs, without a fault
-pub record Said (n : ℕ) (clash : ℕ → ℕ → Bool) (t : Text) (i k : ℕ) (gs : Groups) : Type 0 where
-  pub lines : before t i ≡ laid k gs
-  pub fine : Fine n clash gs
-  pub most : length gs ≤ k
+abbrev pub Lacks : ℕ → Text → ℕ → Type 0
+Lacks n t f = (x : Saying) × (before t (lineCount t) ≡ laid x) × LacksAt n x f
 
--- the first line: it is no "groups K", or is not ended
-abbrev pub FirstLine : Text → SheetFault → ℕ → Type 0
-FirstLine t f k = (f ≡ Line) × (k ≡ 1) × ((behindOf groupsWord (lineNo t 0) ≡ Other) ⊎ Unended t 1)
-
-pub record LaterLine (n : ℕ) (clash : ℕ → ℕ → Bool) (t : Text) (f : SheetFault) (line : ℕ) : Type 0 where
-  pub i : ℕ
-  pub place : line ≡ i + 1
-  pub within : Within t line
-  pub k : ℕ
-  pub gs : Groups
-  pub said : Said n clash t i k gs
-  pub has : HasAt n clash k gs (lineNo t i) (Unended t line) f
-  pub lowest : (g : SheetFault) → rank g < rank f → ¬ HasAt n clash k gs (lineNo t i) (Unended t line) g
-
--- at the end: the counts are not met; or they are, and an entry is absent
-abbrev pub Lacking : ℕ → ℕ → Groups → SheetFault → Type 0
-Lacking n k gs Ends = ¬ OverPlace k gs
-Lacking n k gs Missing = OverPlace k gs × ((u : ℕ) × (1 ≤ u) × (u ≤ n) × ¬ StandsIn gs u)
-Lacking n k gs Long = ⊥
-Lacking n k gs Line = ⊥
-Lacking n k gs Member = ⊥
-Lacking n k gs Order = ⊥
-Lacking n k gs Twice = ⊥
-Lacking n k gs Clash = ⊥
-Lacking n k gs Extra = ⊥
-
-pub record SheetEnd (n : ℕ) (clash : ℕ → ℕ → Bool) (t : Text) (f : SheetFault) (line : ℕ) : Type 0 where
-  pub place : line ≡ lineCount t + 1
-  pub k : ℕ
-  pub gs : Groups
-  pub said : Said n clash t (lineCount t) k gs
-  pub lacking : Lacking n k gs f
-
--- the sheet is empty
-abbrev pub Empty : Text → SheetFault → ℕ → Type 0
-Empty t f line = (f ≡ Ends) × (line ≡ 1) × (lineCount t ≡ 0)
-
-abbrev pub SheetRefusedAt : ℕ → (ℕ → ℕ → Bool) → Text → SheetFault → ℕ → Type 0
-SheetRefusedAt n clash t f line = (FirstLine t f line ⊎ LaterLine n clash t f line) ⊎ (Empty t f line ⊎ SheetEnd n clash t f line)
+abbrev pub SheetRefused : ℕ → ℕ → (ℕ → ℕ → Bool) → List ℕ → ℕ → ℕ → Type 0
+SheetRefused longest n clash s f k = Refusal longest s (Has n clash (linesOf s)) sheetOrder (Lacks n (linesOf s)) f k
