@@ -1,9 +1,6 @@
 -- The line that a refusal of a clash text names: 18 none; a fault of a line that line, which for 17 is the p line; a fault at the text's end (16, or
 -- 11 where no line is a p line) the number of lines plus one.
 --
---   lineCount t   : how many lines t has
---   Within t k    : line k is one of the lines t, which count from 1
---   shapeAt t k   : the shape of line k; there is no line 0
 --   Bare b t k    : no p line stands before line k; b is whether one stands before t, false for a whole text
 --   Named b t f k : where the fault f may be found, if line k is named
 --   Names t a     : the answer a to the whole text t names such a line, if it refuses
@@ -17,9 +14,9 @@ use mathlib.Core.Logic.{_⊎_, inl, inr}
 use native.Mathlib.Omega.{arith}
 use lib.Dec.{T, leb, eqb}
 use lib.ListN.{length}
-use Rattle.lines.specs.Text.{Text, done, unended, ended, linesOf, lineNo}
+use Rattle.lines.specs.Text.{Text, done, unended, ended, linesOf, lineCount, Within}
 use Rattle.lines.proofs.Basics.{cond-cases}
-use Rattle.lists.specs.Shape.{shapeOf}
+use Rattle.lists.specs.Shape.{shapeOf, shapeAt, isP, isE}
 use Rattle.lists.specs.Read.{noRows, inside, edgeOf, stepOf, join, after, readFrom, start, readOf}
 use Rattle.lists.specs.Promise.{ReadPromise}
 use Rattle.lists.specs.declared.Shape.{Shape}
@@ -32,30 +29,6 @@ use Rattle.lists.specs.declared.Reading.{Reading}
 use Rattle.lists.specs.declared.Reading.the-variants.{Read, Refused}
 use Rattle.lists.specs.declared.Step.{Step}
 use Rattle.lists.specs.declared.Step.the-variants.{Stop, Go, Edge}
-
-abbrev pub lineCount : Text → ℕ
-lineCount done = 0
-lineCount (unended l) = 1
-lineCount (ended l t) = suc (lineCount t)
-
-abbrev pub Within : Text → ℕ → Type 0
-Within t k = (1 ≤ k) × (k ≤ lineCount t)
-
-abbrev pub shapeAt : Text → ℕ → Shape
-shapeAt t zero = Bad
-shapeAt t (suc i) = shapeOf (lineNo t i)
-
-abbrev pub isP : Shape → Bool
-isP (P n m) = true
-isP (E u v) = false
-isP Comment = false
-isP Bad = false
-
-abbrev pub isE : Shape → Bool
-isE (E u v) = true
-isE (P n m) = false
-isE Comment = false
-isE Bad = false
 
 abbrev pub Bare : Bool → Text → ℕ → Type 0
 Bare b t k = (b ≡ false) × ((j : ℕ) → suc j < k → isP (shapeAt t (suc j)) ≡ false)

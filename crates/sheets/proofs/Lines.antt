@@ -15,13 +15,12 @@ use Rattle.clashes.specs.Matrix.{matrix}
 use Rattle.lines.specs.Words.{aloneOf}
 use Rattle.lines.specs.declared.Alone.{Alone}
 use Rattle.lines.specs.declared.Alone.the-variants.{Only, Other}
-use Rattle.lines.specs.Text.{Text, done, unended, ended, linesOf, lineEnd, nextStart, placeOf}
+use Rattle.lines.specs.Text.{Text, done, unended, ended, linesOf, lineCount, lineEnd, nextStart, placeOf}
 use Rattle.lines.specs.Part.{PartOf}
 use Rattle.lines.proofs.Basics.{cond-cases}
 use Rattle.lines.proofs.Lines.{line-ended, line-unended, next-mid, next-end, place-le}
 use Rattle.lists.specs.Read.{stepOf as stepList, after as afterList, readFrom, readOf, edgeOf, inside as insideList, start as startList, noRows}
 use Rattle.lists.specs.Shape.{shapeOf}
-use Rattle.lists.proofs.Lines.{lineCount}
 use Rattle.lists.specs.declared.Fault.{Fault}
 use Rattle.lists.specs.declared.Fault.the-variants.{Line as NoLine, Headless, Second, Size, Vertex, Loop, Count as Counted, Room, Long as TooLong}
 use Rattle.lists.specs.declared.Found.{Found}
