@@ -15,8 +15,9 @@ use lib.ListN.{length}
 use Rattle.sets.specs.Lists.{bit}
 use Rattle.clashes.specs.Matrix.{matrix}
 use Rattle.lines.specs.Text.{Text, done, unended, ended}
-use Rattle.lists.specs.Shape.{shapeOf}
-use Rattle.lists.specs.Read.{accepted, refused, inside, edgeOf, stepOf, join, after, readFrom}
+use Rattle.lists.specs.Shape.{shapeOf, isE}
+use Rattle.lists.specs.Read.{accepted, inside, edgeOf, join}
+use Rattle.texts.proofs.ShimRead.{refusedUpTo, stepUpTo, afterUpTo, readFromUpTo}
 use Rattle.lists.specs.declared.Shape.{Shape}
 use Rattle.lists.specs.declared.Shape.the-variants.{Comment, P, E, Bad}
 use Rattle.lists.specs.declared.Fault.{Fault}
@@ -27,17 +28,16 @@ use Rattle.lists.specs.declared.Step.the-variants.{Stop, Go, Edge}
 use Rattle.lists.specs.declared.Reading.the-variants.{Read}
 use Rattle.lists.proofs.Fold.{inside-is, join-length}
 use Rattle.lists.proofs.Marks.{join-was, join-old, join-new}
-use Rattle.lists.proofs.Lines.{isE}
 use Rattle.texts.specs.Listed.{At, EdgeLine, edgeLines, Whole, Proper}
 use Rattle.texts.proofs.ListLines.{at-first, at-later, at-cases, at-none}
 
-pub refusal : (f : Fault) (line n : ℕ) → refused f line .answer ≡ Read n → ⊥
-refusal f line n a = let z : _≡_ {A = ℕ} 0 1 = cc in omega arith
+pub refusal : (most : ℕ) (f : Fault) (line n : ℕ) → refusedUpTo most f line .answer ≡ Read n → ⊥
+refusal most f line n a = let z : _≡_ {A = ℕ} 0 1 = cc in omega arith
 
--- ---- after the p line
+-- ---- afterUpTo most the p line
 
 pub record Body (t : Text) (h : Head) (g : List ℕ) (n : ℕ) (w : List ℕ) : Type 0 where
-  pub long : length w ≡ 64
+  pub long : length w ≡ length g
   pub size : h .n ≡ n
   pub whole : Whole t
   pub permitted : (k : ℕ) → At t k Bad → ⊥
@@ -51,9 +51,9 @@ pub record Body (t : Text) (h : Head) (g : List ℕ) (n : ℕ) (w : List ℕ) : 
 pub edge-later : (l : List ℕ) (t : Text) (i j : ℕ) → EdgeLine t i j → EdgeLine (ended l t) i j
 edge-later l t i j e = (suc (e .0), ⊎-elim (λ x. inl (at-later l t (e .0) _ x)) (λ x. inr (at-later l t (e .0) _ x)) (e .1))
 
-body-end : (h : Head) (g : List ℕ) → length g ≡ 64 → h .count ≡ h .m → Body done h g (h .n) g
-body-end h g z e = record {
-  long = z;
+body-end : (h : Head) (g : List ℕ) → h .count ≡ h .m → Body done h g (h .n) g
+body-end h g e = record {
+  long = refl;
   size = refl;
   whole = tt;
   permitted = λ k x. at-none k Bad x;
@@ -79,14 +79,14 @@ edge-back l t e = edge-rest l t (λ u v y. let q : _≡_ {A = ℕ} 0 1 = cc in o
 pub edge-back-p : (l : List ℕ) (t : Text) (n m : ℕ) → shapeOf l ≡ P n m → (i j : ℕ) → EdgeLine (ended l t) i j → EdgeLine t i j
 edge-back-p l t n m e = edge-rest l t (λ u v y. let q : _≡_ {A = ℕ} 0 1 = cc in omega arith)
 
-second-p : (h : Head) (room c d : ℕ) → h .seen ≡ true → stepOf h room (P c d) ≡ Stop Second
-second-p h room c d q = rw q
+second-p : (most : ℕ) (h : Head) (room c d : ℕ) → h .seen ≡ true → stepUpTo most h room (P c d) ≡ Stop Second
+second-p most h room c d q = rw q
 
-seen-e : (h : Head) (room u v : ℕ) → h .seen ≡ true → stepOf h room (E u v) ≡ edgeOf h u v
-seen-e h room u v q = rw q
+seen-e : (most : ℕ) (h : Head) (room u v : ℕ) → h .seen ≡ true → stepUpTo most h room (E u v) ≡ edgeOf h u v
+seen-e most h room u v q = rw q
 
-pub unseen-e : (h : Head) (room u v : ℕ) → h .seen ≡ false → stepOf h room (E u v) ≡ Stop Headless
-unseen-e h room u v q = rw q
+pub unseen-e : (most : ℕ) (h : Head) (room u v : ℕ) → h .seen ≡ false → stepUpTo most h room (E u v) ≡ Stop Headless
+unseen-e most h room u v q = rw q
 
 body-comment : (l : List ℕ) (t : Text) (h : Head) (g : List ℕ) (n : ℕ) (w : List ℕ) → shapeOf l ≡ Comment → Body t h g n w → Body (ended l t) h g n w
 body-comment l t h g n w e r = record {
@@ -109,7 +109,7 @@ more h = record { seen = true; n = h .n; m = h .m; count = h .count + 1 }
 body-edge : (l : List ℕ) (t : Text) (h : Head) (g : List ℕ) (n : ℕ) (w : List ℕ) (u v : ℕ) → shapeOf l ≡ E u v → h .n ≤ length g → Proper (h .n) u v
     → Body t (more h) (join g (u - 1) (v - 1)) n w → Body (ended l t) h g n w
 body-edge l t h g n w u v e f p r = record {
-  long = r .long;
+  long = r .long ∙ join-length g (u - 1) (v - 1);
   size = r .size;
   whole = r .whole;
   permitted = λ k x. ⊎-elim (λ y. let z : _≡_ {A = ℕ} 0 1 = cc (y .1) in omega arith) (λ y. r .permitted (y .0) (y .2)) (at-cases l t k Bad x);
@@ -155,44 +155,44 @@ body-edge l t h g n w u v e f p r = record {
         turned : (i j : ℕ) → E u v ≡ E (j + 1) (i + 1) → T (matrix w i j)
         turned i j q = let a : u ≡ j + 1 = cc in let b : v ≡ i + 1 = cc in r .old i j (join-new g (u - 1) (v - 1) hu hv i j (inr (omega arith, omega arith)))
 
-pub body : (t : Text) (room line : ℕ) (h : Head) (g : List ℕ) → h .seen ≡ true → h .n ≤ 64 → length g ≡ 64 → (n : ℕ) (w : List ℕ)
-    → readFrom t room line h g .answer ≡ Read n → readFrom t room line h g .rows ≡ w → Body t h g n w
-body done room line h g q f z n w a b = go (h .seen) q (eqb (h .count) (h .m)) refl a b
+pub body : (most : ℕ) (t : Text) (room line : ℕ) (h : Head) (g : List ℕ) → h .seen ≡ true → h .n ≤ length g → (n : ℕ) (w : List ℕ)
+    → readFromUpTo most t room line h g .answer ≡ Read n → readFromUpTo most t room line h g .rows ≡ w → Body t h g n w
+body most done room line h g q f n w a b = go (h .seen) q (eqb (h .count) (h .m)) refl a b
   where
     go : (x : Bool) → x ≡ true → (y : Bool) → eqb (h .count) (h .m) ≡ y
-        → cond x (cond y (accepted (h .n) g) (refused Count line)) (refused Headless line) .answer ≡ Read n
-        → cond x (cond y (accepted (h .n) g) (refused Count line)) (refused Headless line) .rows ≡ w → Body done h g n w
+        → cond x (cond y (accepted (h .n) g) (refusedUpTo most Count line)) (refusedUpTo most Headless line) .answer ≡ Read n
+        → cond x (cond y (accepted (h .n) g) (refusedUpTo most Count line)) (refusedUpTo most Headless line) .rows ≡ w → Body done h g n w
     go true q true e a b =
         let m : h .n ≡ n = cc in
-        subst (λ (k : ℕ). Body done h g k w) m (subst (Body done h g (h .n)) b (body-end h g z (eqb-true (h .count) (h .m) e)))
-    go true q false e a b = absurd (refusal Count line n a)
+        subst (λ (k : ℕ). Body done h g k w) m (subst (Body done h g (h .n)) b (body-end h g (eqb-true (h .count) (h .m) e)))
+    go true q false e a b = absurd (refusal most Count line n a)
     go false q y e a b = absurd (subst T (sym q) tt)
-body (unended l) room line h g q f z n w a b = absurd (refusal Line line n a)
-body (ended l t) room line h g q f z n w a b = go (shapeOf l) refl (body t room (line + 1)) a b
+body most (unended l) room line h g q f n w a b = absurd (refusal most Line line n a)
+body most (ended l t) room line h g q f n w a b = go (shapeOf l) refl (body most t room (line + 1)) a b
   where
     edge : (u v : ℕ) → shapeOf l ≡ E u v → (x : Bool) → inside (h .n) u ≡ x → (y : Bool) → inside (h .n) v ≡ y → (d : Bool) → eqb u v ≡ d
-        → ((h : Head) (g : List ℕ) → h .seen ≡ true → h .n ≤ 64 → length g ≡ 64 → (n : ℕ) (w : List ℕ)
-        → readFrom t room (line + 1) h g .answer ≡ Read n → readFrom t room (line + 1) h g .rows ≡ w → Body t h g n w)
-        → after (cond x (cond y (cond d (Stop Loop) (Edge (more h) (u - 1) (v - 1))) (Stop Vertex)) (Stop Vertex)) g line (readFrom t room (line + 1)) .answer ≡ Read n
-        → after (cond x (cond y (cond d (Stop Loop) (Edge (more h) (u - 1) (v - 1))) (Stop Vertex)) (Stop Vertex)) g line (readFrom t room (line + 1)) .rows ≡ w
+        → ((h : Head) (g : List ℕ) → h .seen ≡ true → h .n ≤ length g → (n : ℕ) (w : List ℕ)
+        → readFromUpTo most t room (line + 1) h g .answer ≡ Read n → readFromUpTo most t room (line + 1) h g .rows ≡ w → Body t h g n w)
+        → afterUpTo most (cond x (cond y (cond d (Stop Loop) (Edge (more h) (u - 1) (v - 1))) (Stop Vertex)) (Stop Vertex)) g line (readFromUpTo most t room (line + 1)) .answer ≡ Read n
+        → afterUpTo most (cond x (cond y (cond d (Stop Loop) (Edge (more h) (u - 1) (v - 1))) (Stop Vertex)) (Stop Vertex)) g line (readFromUpTo most t room (line + 1)) .rows ≡ w
         → Body (ended l t) h g n w
     edge u v e true x true y false d r a b =
-        body-edge l t h g n w u v e (omega arith) (record { first = inside-is (h .n) u x; second = inside-is (h .n) v y; differ = eqb-false u v d })
-        (r (more h) (join g (u - 1) (v - 1)) refl f (join-length g (u - 1) (v - 1) ∙ z) n w a b)
-    edge u v e true x true y true d r a b = absurd (refusal Loop line n a)
-    edge u v e true x false y d i r a b = absurd (refusal Vertex line n a)
-    edge u v e false x y j d i r a b = absurd (refusal Vertex line n a)
+        body-edge l t h g n w u v e f (record { first = inside-is (h .n) u x; second = inside-is (h .n) v y; differ = eqb-false u v d })
+        (r (more h) (join g (u - 1) (v - 1)) refl (omega (arith, join-length g (u - 1) (v - 1))) n w a b)
+    edge u v e true x true y true d r a b = absurd (refusal most Loop line n a)
+    edge u v e true x false y d i r a b = absurd (refusal most Vertex line n a)
+    edge u v e false x y j d i r a b = absurd (refusal most Vertex line n a)
 
     go : (s : Shape) → shapeOf l ≡ s
-        → ((h : Head) (g : List ℕ) → h .seen ≡ true → h .n ≤ 64 → length g ≡ 64 → (n : ℕ) (w : List ℕ)
-        → readFrom t room (line + 1) h g .answer ≡ Read n → readFrom t room (line + 1) h g .rows ≡ w → Body t h g n w)
-        → after (stepOf h room s) g line (readFrom t room (line + 1)) .answer ≡ Read n
-        → after (stepOf h room s) g line (readFrom t room (line + 1)) .rows ≡ w → Body (ended l t) h g n w
-    go Bad e r a b = absurd (refusal Line line n a)
-    go Comment e r a b = body-comment l t h g n w e (r h g q f z n w a b)
-    go (P c d) e r a b = absurd (refusal Second line n (subst (λ (x : Step). after x g line (readFrom t room (line + 1)) .answer ≡ Read n) (second-p h room c d q) a))
+        → ((h : Head) (g : List ℕ) → h .seen ≡ true → h .n ≤ length g → (n : ℕ) (w : List ℕ)
+        → readFromUpTo most t room (line + 1) h g .answer ≡ Read n → readFromUpTo most t room (line + 1) h g .rows ≡ w → Body t h g n w)
+        → afterUpTo most (stepUpTo most h room s) g line (readFromUpTo most t room (line + 1)) .answer ≡ Read n
+        → afterUpTo most (stepUpTo most h room s) g line (readFromUpTo most t room (line + 1)) .rows ≡ w → Body (ended l t) h g n w
+    go Bad e r a b = absurd (refusal most Line line n a)
+    go Comment e r a b = body-comment l t h g n w e (r h g q f n w a b)
+    go (P c d) e r a b = absurd (refusal most Second line n (subst (λ (x : Step). afterUpTo most x g line (readFromUpTo most t room (line + 1)) .answer ≡ Read n) (second-p most h room c d q) a))
     go (E u v) e r a b =
         edge u v e (inside (h .n) u) refl (inside (h .n) v) refl (eqb u v) refl r
-        (subst (λ (x : Step). after x g line (readFrom t room (line + 1)) .answer ≡ Read n) (seen-e h room u v q) a)
-        (subst (λ (x : Step). after x g line (readFrom t room (line + 1)) .rows ≡ w) (seen-e h room u v q) b)
+        (subst (λ (x : Step). afterUpTo most x g line (readFromUpTo most t room (line + 1)) .answer ≡ Read n) (seen-e most h room u v q) a)
+        (subst (λ (x : Step). afterUpTo most x g line (readFromUpTo most t room (line + 1)) .rows ≡ w) (seen-e most h room u v q) b)
 

@@ -8,10 +8,9 @@ use mathlib.Core.Path.{_≡_, refl, subst}
 use mathlib.Core.Logic.{_⊎_, inl, inr, ⊎-elim}
 use mathlib.Core.List.{List}
 use native.Mathlib.Omega.{arith}
-use Rattle.lines.specs.Text.{Text, done, unended, ended}
-use Rattle.lists.specs.Shape.{shapeOf}
+use Rattle.lines.specs.Text.{Text, done, unended, ended, lineCount, Within}
+use Rattle.lists.specs.Shape.{shapeOf, shapeAt}
 use Rattle.lists.specs.declared.Shape.{Shape}
-use Rattle.lists.proofs.Lines.{lineCount, Within, shapeAt}
 use Rattle.texts.specs.Faults.{Unended}
 use Rattle.texts.specs.Listed.{At, EdgeLine, Whole}
 

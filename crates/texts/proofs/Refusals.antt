@@ -12,8 +12,7 @@ use lib.ListN.{length}
 use Rattle.sets.specs.Lists.{In}
 use Rattle.refusals.specs.Table.{numberOf, If}
 use Rattle.refusals.specs.declared.Refusal.the-variants.{Long}
-use Rattle.lines.specs.Text.{Text, linesOf}
-use Rattle.lists.proofs.Lines.{lineCount}
+use Rattle.lines.specs.Text.{Text, linesOf, lineCount}
 use Rattle.texts.specs.Faults.{place, Clean, InLine, AtEnd, Refusal, Faultless}
 
 -- ---- selected by number
@@ -23,7 +22,7 @@ if-cases true h f g = f refl h
 if-cases false h f g = g refl h
 
 if-not : (P : Type 0) {Q : Type 0} (b : Bool) → b ≡ false → Q → If b P Q
-if-not P true e h = absurd (subst T (sym e) tt)
+if-not P true e h = absurd (subst T e tt)
 if-not P false e h = h
 
 -- ---- places in an order

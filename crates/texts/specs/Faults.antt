@@ -21,8 +21,7 @@ use lib.Dec.{eqb}
 use lib.ListN.{length}
 use Rattle.refusals.specs.Table.{numberOf, If}
 use Rattle.refusals.specs.declared.Refusal.the-variants.{Long}
-use Rattle.lines.specs.Text.{Text, done, unended, ended, linesOf}
-use Rattle.lists.proofs.Lines.{lineCount, Within}
+use Rattle.lines.specs.Text.{Text, done, unended, ended, linesOf, lineCount, Within}
 
 abbrev pub Unended : Text → ℕ → Type 0
 Unended done k = ⊥

@@ -26,11 +26,10 @@ use lib.ListN.{length}
 use Rattle.sets.specs.Lists.{In}
 use Rattle.refusals.specs.Table.{numberOf, If}
 use Rattle.refusals.specs.declared.Refusal.the-variants.{SheetLine, Member, Order, Twice, Clash, Ends, Missing, Extra}
-use Rattle.lines.specs.Text.{Text, linesOf, lineNo}
+use Rattle.lines.specs.Text.{Text, linesOf, lineNo, lineCount}
 use Rattle.lines.specs.Words.{aloneOf}
 use Rattle.lines.specs.declared.Alone.{Alone}
 use Rattle.lines.specs.declared.Alone.the-variants.{Only, Other}
-use Rattle.lists.proofs.Lines.{lineCount}
 use Rattle.sheets.specs.Check.{groupsWord, sizeWord, behindOf}
 use Rattle.texts.specs.Faults.{Unended, Outside, Refusal}
 
