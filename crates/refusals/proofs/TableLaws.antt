@@ -1,4 +1,5 @@
--- The table's numbers tell its refusals apart, and none of them is 0, which says accepted. Assumes nothing.
+-- The table's numbers tell its refusals apart, and none of them is 0, which says accepted; what is told with a refusal leaves its number as it
+-- is. Assumes nothing.
 use mathlib.Core.Path.{_≡_, refl, sym, ap, _∙_}
 use mathlib.Core.Logic.{_≢_}
 use mathlib.Core.Bool.{cond}
@@ -7,7 +8,7 @@ use mathlib.Core.Option.{Option, none, some}
 use Prim.Native.Nat.{ℕ}
 use native.Mathlib.Omega.{arith}
 use lib.Dec.{eqb}
-use Rattle.refusals.specs.Table.{entry, numberOf, accepted}
+use Rattle.refusals.specs.Table.{Beside, nothing, aRow, theNodes, aLine, anIndex, entry, numberOf, accepted, with, told}
 use Rattle.refusals.specs.declared.Refusal.{Refusal}
 use Rattle.refusals.specs.declared.Refusal.the-variants.{Many, Stray, Itself, OneSided, Short, Budget, Deep, Line, Headless, Second, Size, Vertex, Loop, Count, Room, Long, Full, SheetLine, Member, Order, Twice, Clash, Ends, Missing, Extra, Colours}
 
@@ -56,3 +57,13 @@ number-unique r q e = let h : some r ≡ some q = sym (back r) ∙ ap (λ (n : �
 
 pub number-refuses : (r : Refusal) → numberOf r ≢ accepted
 number-refuses r e = let h : some r ≡ none = sym (back r) ∙ ap (λ (n : ℕ). whose n all) e in let z : _≡_ {A = ℕ} 0 1 = cc in absurd (omega arith)
+
+pub told-number : (r : Refusal) (x : ℕ) → told r x .number ≡ numberOf r
+told-number r x = go (entry r .beside)
+  where
+    go : (b : Beside) → with (entry r .number) b x .number ≡ entry r .number
+    go nothing = refl
+    go aRow = refl
+    go theNodes = refl
+    go aLine = refl
+    go anIndex = refl

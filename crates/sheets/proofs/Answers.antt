@@ -19,7 +19,7 @@ use Rattle.lists.specs.declared.Reading.{Reading}
 use Rattle.lists.specs.declared.Reading.the-variants.{Read, Refused as Unreadable}
 use Rattle.lists.proofs.Fold.{Bounded, read-few}
 use Rattle.sheets.specs.Check.{noColours, without, refused, stepOf, met, finish, none, after, checkFrom, start, sheetOf, against, checkOf}
-use Rattle.sheets.specs.Promise.{numbersOf, writtenOf, CheckPromise, holderOf, ShownOf, PreviewPromise}
+use Rattle.sheets.specs.Promise.{numbersOf, writtenOf, CheckPromise, theList, heldBy, ShownOf, PreviewPromise}
 use Rattle.sheets.specs.declared.Numbers.{Numbers}
 use Rattle.sheets.specs.declared.SheetFault.{SheetFault}
 use Rattle.sheets.specs.declared.Checked.the-variants.{Unread, Short}
@@ -79,15 +79,15 @@ module _ (list s : RefT (List ℕ)) (room : ℕ) (o : Outcome) (m : Numbers) (r 
   numbers-are : numbersOf (checkOf (now list) (now s) room .answer) ≡ m
   numbers-are = sym (f ∙ ap (λ (x : Outcome). numbersOf (x .answer)) e)
 
-  pub preview-list : m .text ≡ 1 → ShownOf list (m .line) r → PreviewPromise list s room r
+  pub preview-list : m .text ≡ theList → ShownOf list (m .line) r → PreviewPromise list s room r
   preview-list t x =
-      subst (λ (y : Numbers). ShownOf (holderOf y list s) (y .line) r) (sym numbers-are)
-      (subst (λ (b : Bool). ShownOf (cond b list s) (m .line) r) (sym (eq-eqb (m .text) 1 t)) x)
+      subst (λ (y : Numbers). ShownOf (heldBy (y .text) list s) (y .line) r) (sym numbers-are)
+      (subst (λ (b : Bool). ShownOf (cond b list s) (m .line) r) (sym (eq-eqb (m .text) theList t)) x)
 
-  pub preview-sheet : (m .text ≡ 1 → ⊥) → ShownOf s (m .line) r → PreviewPromise list s room r
+  pub preview-sheet : (m .text ≡ theList → ⊥) → ShownOf s (m .line) r → PreviewPromise list s room r
   preview-sheet t x =
-      subst (λ (y : Numbers). ShownOf (holderOf y list s) (y .line) r) (sym numbers-are)
-      (subst (λ (b : Bool). ShownOf (cond b list s) (m .line) r) (sym (ne-eqb (m .text) 1 t)) x)
+      subst (λ (y : Numbers). ShownOf (heldBy (y .text) list s) (y .line) r) (sym numbers-are)
+      (subst (λ (b : Bool). ShownOf (cond b list s) (m .line) r) (sym (ne-eqb (m .text) theList t)) x)
 
 -- ---- the ways out of `check`
 

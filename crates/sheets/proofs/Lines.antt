@@ -19,6 +19,7 @@ use Rattle.lines.specs.Text.{Text, done, unended, ended, linesOf, lineCount, li
 use Rattle.lines.specs.Part.{PartOf}
 use Rattle.lines.proofs.Basics.{cond-cases}
 use Rattle.lines.proofs.Lines.{line-ended, line-unended, next-mid, next-end, place-le}
+use Rattle.refusals.specs.Table.{told}
 use Rattle.lists.specs.Read.{stepOf as stepList, after as afterList, readFrom, readOf, edgeOf, inside as insideList, start as startList, noRows}
 use Rattle.lists.specs.Shape.{shapeOf}
 use Rattle.lists.specs.declared.Fault.{Fault}
@@ -32,7 +33,7 @@ use Rattle.lists.specs.declared.Shape.the-variants.{Comment, P, E, Bad}
 use Rattle.lists.specs.declared.Step.{Step as ListStep}
 use Rattle.lists.specs.declared.Step.the-variants.{Stop as StopList, Go, Edge}
 use Rattle.sheets.specs.Check.{noColours, groupsWord, sizeWord, behindOf, groupsOf, sizeOf, memberOf, stepOf, met, none, after, checkFrom, start, sheetOf, against, checkOf}
-use Rattle.sheets.specs.Promise.{numbersOf, holderOf, ShownOf, PreviewPromise}
+use Rattle.sheets.specs.Promise.{refusalOf, heldBy, numbersOf, ShownOf, PreviewPromise}
 use Rattle.sheets.proofs.Fold.{check-short}
 use Rattle.sheets.specs.declared.SheetFault.{SheetFault}
 use Rattle.sheets.specs.declared.SheetFault.the-variants.{Long, Line, Member, Order, Twice, Clash, Ends, Missing, Extra}
@@ -271,16 +272,18 @@ check-ending list s room = go (readOf list 64 .answer)
 
 -- for them the empty part at the sheet's end is shown
 module _ (list s : RefT (List ℕ)) (room : ℕ) (r : RefT (List ℕ)) (p : PreviewPromise list s room r) (j : ℕ) where
-  at-end : (f : SheetFault) → checkOf (now list) (now s) room .answer ≡ Refused f j → j ≡ suc (lineCount (linesOf (now s))) → PartOf s (length (now s)) (length (now s)) r
-  at-end f e z =
-      let x = subst (λ (a : Checked). ShownOf (holderOf (numbersOf a) list s) (numbersOf a .line) r) e p in
-      shown-end s r (subst (λ (k : ℕ). ShownOf s k r) z x)
+  -- the table names a line for them
+  at-end : (f : SheetFault) → told (refusalOf f) j .line ≡ j → checkOf (now list) (now s) room .answer ≡ Refused f j
+      → j ≡ suc (lineCount (linesOf (now s))) → PartOf s (length (now s)) (length (now s)) r
+  at-end f n e z =
+      let x = subst (λ (a : Checked). ShownOf (heldBy (numbersOf a .text) list s) (numbersOf a .line) r) e p in
+      shown-end s r (subst (λ (k : ℕ). ShownOf s k r) (n ∙ z) x)
 
   pub preview-ends : checkOf (now list) (now s) room .answer ≡ Refused Ends j → PartOf s (length (now s)) (length (now s)) r
-  preview-ends e = at-end Ends e (subst (Ending (suc (lineCount (linesOf (now s))))) e (check-ending (now list) (now s) room))
+  preview-ends e = at-end Ends refl e (subst (Ending (suc (lineCount (linesOf (now s))))) e (check-ending (now list) (now s) room))
 
   pub preview-missing : checkOf (now list) (now s) room .answer ≡ Refused Missing j → PartOf s (length (now s)) (length (now s)) r
-  preview-missing e = at-end Missing e (subst (Ending (suc (lineCount (linesOf (now s))))) e (check-ending (now list) (now s) room))
+  preview-missing e = at-end Missing refl e (subst (Ending (suc (lineCount (linesOf (now s))))) e (check-ending (now list) (now s) room))
 
 -- ---- 17 cannot arise
 

@@ -12,8 +12,8 @@ use Rattle.lines.specs.Text.{placeOf, lineEnd}
 use Rattle.lines.specs.Part.{PartOf}
 use Rattle.lines.proofs.Lines.{start-le}
 use Rattle.sheets.specs.Check.{checkOf}
-use Rattle.sheets.specs.Promise.{numbersOf, ShownOf, PreviewPromise}
-use Rattle.sheets.specs.Place.{partAt, textOf, faultPart, PlacePromise}
+use Rattle.sheets.specs.Promise.{theList, heldBy, numbersOf, ShownOf, PreviewPromise}
+use Rattle.sheets.specs.Place.{partAt, faultPart, PlacePromise}
 use Rattle.sheets.specs.declared.Numbers.{Numbers}
 use Rattle.sheets.specs.declared.Outcome.{Outcome}
 use Rattle.sheets.specs.declared.Part.{Part}
@@ -36,15 +36,15 @@ module _ (list s : List ℕ) (room : ℕ) (o : Outcome) (m : Numbers) (p : Part)
   numbers-are : numbersOf (checkOf list s room .answer) ≡ m
   numbers-are = sym (f ∙ ap (λ (x : Outcome). numbersOf (x .answer)) e)
 
-  pub place-list : m .text ≡ 1 → p ≡ partAt (m .text) list (m .line) → PlacePromise list s room p
+  pub place-list : m .text ≡ theList → p ≡ partAt (m .text) list (m .line) → PlacePromise list s room p
   place-list t x =
-      subst (λ (y : Numbers). p ≡ partAt (y .text) (textOf y list s) (y .line)) (sym numbers-are)
-      (subst (λ (b : Bool). p ≡ partAt (m .text) (cond b list s) (m .line)) (sym (eq-eqb (m .text) 1 t)) x)
+      subst (λ (y : Numbers). p ≡ partAt (y .text) (heldBy (y .text) list s) (y .line)) (sym numbers-are)
+      (subst (λ (b : Bool). p ≡ partAt (m .text) (cond b list s) (m .line)) (sym (eq-eqb (m .text) theList t)) x)
 
-  pub place-sheet : (m .text ≡ 1 → ⊥) → p ≡ partAt (m .text) s (m .line) → PlacePromise list s room p
+  pub place-sheet : (m .text ≡ theList → ⊥) → p ≡ partAt (m .text) s (m .line) → PlacePromise list s room p
   place-sheet t x =
-      subst (λ (y : Numbers). p ≡ partAt (y .text) (textOf y list s) (y .line)) (sym numbers-are)
-      (subst (λ (b : Bool). p ≡ partAt (m .text) (cond b list s) (m .line)) (sym (ne-eqb (m .text) 1 t)) x)
+      subst (λ (y : Numbers). p ≡ partAt (y .text) (heldBy (y .text) list s) (y .line)) (sym numbers-are)
+      (subst (λ (b : Bool). p ≡ partAt (m .text) (cond b list s) (m .line)) (sym (ne-eqb (m .text) theList t)) x)
 
 -- ---- one answer
 
@@ -74,7 +74,7 @@ text-is t s (suc k) = refl
 
 -- the text that a place is in
 abbrev pub holder : RefT (List ℕ) → RefT (List ℕ) → Part → RefT (List ℕ)
-holder list s p = cond (eqb (p .text) 1) list s
+holder list s p = heldBy (p .text) list s
 
 module _ (list s : RefT (List ℕ)) (room : ℕ) (r : RefT (List ℕ)) where
   abbrev m : Numbers
@@ -92,16 +92,16 @@ module _ (list s : RefT (List ℕ)) (room : ℕ) (r : RefT (List ℕ)) where
   back false k x = shown-at (m .text) s k r x
 
   named : whole .text ≡ m .text
-  named = text-is (m .text) (textOf m (now list) (now s)) (m .line)
+  named = text-is (m .text) (heldBy (m .text) (now list) (now s)) (m .line)
 
   -- what `fault_line` returns lies at this place
   pub place-shown : (p : Part) → PlacePromise (now list) (now s) room p → PreviewPromise list s room r → At (holder list s p) p r
   place-shown p e x =
       subst (λ (q : Part). At (holder list s q) q r) (sym e)
-      (subst (λ (t : ℕ). At (cond (eqb t 1) list s) whole r) (sym named) (both (eqb (m .text) 1) (m .line) x))
+      (subst (λ (t : ℕ). At (heldBy t list s) whole r) (sym named) (both (eqb (m .text) theList) (m .line) x))
 
   -- and what lies there is what it returns
   pub shown-place : (p : Part) → PlacePromise (now list) (now s) room p → At (holder list s p) p r → PreviewPromise list s room r
   shown-place p e x =
-      back (eqb (m .text) 1) (m .line)
-      (subst (λ (t : ℕ). At (cond (eqb t 1) list s) whole r) named (subst (λ (q : Part). At (holder list s q) q r) e x))
+      back (eqb (m .text) theList) (m .line)
+      (subst (λ (t : ℕ). At (heldBy t list s) whole r) named (subst (λ (q : Part). At (holder list s q) q r) e x))

@@ -5,7 +5,7 @@ use mathlib.Core.List.{List}
 use denote.Ref.{RefT, now}
 use Rattle.lines.proofs.Parts.{part-unique}
 use Rattle.sheets.specs.Check.{checkOf}
-use Rattle.sheets.specs.Promise.{numbersOf, CheckPromise, holderOf, ShownOf, PreviewPromise}
+use Rattle.sheets.specs.Promise.{numbersOf, CheckPromise, heldBy, ShownOf, PreviewPromise}
 use Rattle.sheets.specs.declared.Checked.{Checked}
 
 pub check-unique : (list s old : List ℕ) (a b : Checked) (new other : List ℕ) → CheckPromise list s old a new → CheckPromise list s old b other → (a ≡ b) × (new ≡ other)
@@ -20,4 +20,4 @@ pub preview-unique : (list s : RefT (List ℕ)) (room : ℕ) (r q : RefT (List �
     → (now r ≡ now q) × (r .ptr .0 ≡ q .ptr .0) × (r .ptr .1 ≡ q .ptr .1)
 preview-unique list s room r q x y =
     let m = numbersOf (checkOf (now list) (now s) room .answer) in
-    shown-unique (holderOf m list s) (m .line) r q x y
+    shown-unique (heldBy (m .text) list s) (m .line) r q x y

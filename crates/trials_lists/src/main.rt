@@ -4,13 +4,12 @@
 use libc::STDIN_FILENO;
 use libc::STDOUT_FILENO;
 use lines::Pair;
-use lists::Fault;
 use lists::Reading;
 use lists::Written;
+use refusals::Refusal;
 ghost use mathlib.Core.Path.{_≡_};
 ghost use Prim.Native.Nat.{_≤_};
 ghost use lib.ListN.{length};
-ghost use Rattle.lists.specs.Promise.{numberOf};
 ghost use Rattle.trials_lists.specs.Case.{Within};
 
 // The next text: how many rows are lent, and where it starts and ends.
@@ -45,23 +44,6 @@ fn room_for_texts() -> [u8; 300000]
     ensures { λ r. ⌜ 300000 ≡ length r ⌝ }
 {
     [0; 300000]
-}
-
-// Document 01's number of a fault.
-fn number(why: Fault) -> u64
-    ensures { λ r. ⌜ r ≡ numberOf why ⌝ }
-{
-    match why {
-        Fault::Line => 10,
-        Fault::Headless => 11,
-        Fault::Second => 12,
-        Fault::Size => 13,
-        Fault::Vertex => 14,
-        Fault::Loop => 15,
-        Fault::Count => 16,
-        Fault::Room => 17,
-        Fault::Long => 18,
-    }
 }
 
 // Whether the lent rows from a place on are still the 7 that they were.
@@ -99,9 +81,14 @@ fn put_rows(rows: &[u64]) {
     }
 }
 
-fn put_refused(number: u64, row: usize, out: &[u8]) {
+// Document 01's number of a refusal.
+fn put_refusal(why: Refusal) {
+    put_number(refusals::number(why) as u64);
+}
+
+fn put_refused(why: Refusal, row: usize, out: &[u8]) {
     put(b"written ");
-    put_number(number);
+    put_refusal(why);
     put(b" row ");
     put_number(row as u64);
     put(b" ");
@@ -131,11 +118,11 @@ fn write(rows: &[u64], out: &mut [u8], show: bool) -> usize
             put_text(out, len, show);
             return len;
         }
-        Written::Many => put_refused(1, 0, out),
-        Written::Stray(row) => put_refused(2, row, out),
-        Written::Itself(row) => put_refused(3, row, out),
-        Written::OneSided(row) => put_refused(4, row, out),
-        Written::Full => put_refused(19, 0, out),
+        Written::Many => put_refused(Refusal::Many, 0, out),
+        Written::Stray(row) => put_refused(Refusal::Stray, row, out),
+        Written::Itself(row) => put_refused(Refusal::Itself, row, out),
+        Written::OneSided(row) => put_refused(Refusal::OneSided, row, out),
+        Written::Full => put_refused(Refusal::Full, 0, out),
     }
     0
 }
@@ -170,7 +157,7 @@ fn put_list(lent: &[u64], n: usize)
 fn trial(text: &[u8], lent: &mut [u64]) {
     match lists::read_list(text, lent) {
         Reading::Refused(why, line) => {
-            put_number(number(why));
+            put_refusal(lists::refusal_of(why));
             put(b" line ");
             put_number(line as u64);
             put(b" ");
