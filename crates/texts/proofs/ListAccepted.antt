@@ -21,8 +21,7 @@ use Rattle.sets.proofs.TestLaws.{T-ext}
 use Rattle.clashes.specs.Matrix.{matrix}
 use Rattle.lines.specs.Text.{Text, done, unended, ended, linesOf}
 use Rattle.lists.specs.Shape.{shapeOf, isE}
-use Rattle.lists.specs.Read.{accepted, start}
-use Rattle.texts.proofs.ShimRead.{noRowsUpTo, refusedUpTo, stepUpTo, afterUpTo, readFromUpTo, readUpTo}
+use Rattle.lists.specs.Read.{accepted, start, noRowsUpTo, refusedUpTo, stepUpTo, afterUpTo, readFromUpTo, readUpTo}
 use Rattle.lists.specs.declared.Shape.{Shape}
 use Rattle.lists.specs.declared.Shape.the-variants.{Comment, P, E, Bad}
 use Rattle.lists.specs.declared.Fault.the-variants.{Line, Headless, Second, Size, Room, Count, Long}

@@ -16,8 +16,7 @@ use Rattle.sets.specs.Lists.{bit}
 use Rattle.clashes.specs.Matrix.{matrix}
 use Rattle.lines.specs.Text.{Text, done, unended, ended}
 use Rattle.lists.specs.Shape.{shapeOf, isE}
-use Rattle.lists.specs.Read.{accepted, inside, edgeOf, join}
-use Rattle.texts.proofs.ShimRead.{refusedUpTo, stepUpTo, afterUpTo, readFromUpTo}
+use Rattle.lists.specs.Read.{accepted, inside, edgeOf, join, refusedUpTo, stepUpTo, afterUpTo, readFromUpTo}
 use Rattle.lists.specs.declared.Shape.{Shape}
 use Rattle.lists.specs.declared.Shape.the-variants.{Comment, P, E, Bad}
 use Rattle.lists.specs.declared.Fault.{Fault}

@@ -19,7 +19,7 @@ use Rattle.lists.specs.declared.Fault.the-variants.{Line, Headless, Second, Siz
 use Rattle.lists.specs.declared.Reading.{Reading}
 use Rattle.lists.specs.declared.Reading.the-variants.{Read, Refused}
 use Rattle.lists.specs.Promise.{numberOf}
-use Rattle.texts.proofs.ShimRead.{readUpTo}
+use Rattle.lists.specs.Read.{readUpTo}
 use Rattle.texts.specs.Faults.{Faultless}
 use Rattle.texts.specs.Listed.{At, EdgeLine, edgeLines, ListOf}
 use Rattle.texts.specs.ListFaults.{Has, listOrder, Lacks, ListRefused}
@@ -41,6 +41,10 @@ module _ (most longest : ℕ) (s : List ℕ) where
   pub list-refusal-one : (room f g k j : ℕ) → ListRefused most longest s room f k → ListRefused most longest s room g j → (f ≡ g) × (k ≡ j)
   list-refusal-one room =
       refusal-one longest s (Has most (linesOf s) room) listOrder (Lacks (linesOf s)) (has-known most (linesOf s) room) (lacks-one (linesOf s))
+
+  -- where as many rows are lent as a list can have entries, 17 cannot arise: 13 comes first
+  pub never-room : (k : ℕ) → ¬ ListRefused most longest s most (numberOf Room) k
+  never-room k h = ⊎-elim (λ a. a .lowest (numberOf Size) (omega arith) (a .fault)) (λ a. a .fault) (h .1)
 
   -- ---- a list has no fault
 

@@ -10,8 +10,7 @@ use lib.Dec.{T, leb, eqb}
 use lib.ListN.{length}
 use Rattle.lines.specs.Text.{Text, done, unended, ended, linesOf, lineCount, Within}
 use Rattle.lists.specs.Shape.{shapeOf}
-use Rattle.lists.specs.Read.{accepted, inside, edgeOf, join, start}
-use Rattle.texts.proofs.ShimRead.{noRowsUpTo, refusedUpTo, stepUpTo, afterUpTo, readFromUpTo, readUpTo}
+use Rattle.lists.specs.Read.{accepted, inside, edgeOf, join, start, noRowsUpTo, refusedUpTo, stepUpTo, afterUpTo, readFromUpTo, readUpTo}
 use Rattle.lists.specs.declared.Shape.{Shape}
 use Rattle.lists.specs.declared.Shape.the-variants.{Comment, P, E, Bad}
 use Rattle.lists.specs.declared.Fault.{Fault}

@@ -18,8 +18,7 @@ use Rattle.lines.specs.Text.{Text, done, unended, ended, linesOf}
 use Rattle.lines.specs.Numeral.{numeral, oneLine}
 use Rattle.lines.specs.declared.Alone.{Alone}
 use Rattle.lines.specs.declared.Alone.the-variants.{Only, Other}
-use Rattle.sheets.specs.Check.{met, stepOf, accepted, groupsWord, behindOf, groupsOf, none as nobody, start}
-use Rattle.texts.proofs.ShimCheck.{noColoursUpTo, refusedUpTo, finishUpTo, afterUpTo, checkFromUpTo, sheetUpTo}
+use Rattle.sheets.specs.Check.{met, stepOf, accepted, groupsWord, behindOf, groupsOf, none as nobody, start, noColoursUpTo, refusedUpTo, finishUpTo, afterUpTo, checkFromUpTo, sheetUpTo}
 use Rattle.sheets.specs.declared.Progress.{Progress}
 use Rattle.sheets.specs.declared.Step.{Step}
 use Rattle.sheets.specs.declared.Step.the-variants.{Stop, Count, Place}

@@ -22,7 +22,8 @@ use Rattle.lines.specs.Words.{aloneOf}
 use Rattle.lines.specs.declared.Alone.{Alone}
 use Rattle.lines.specs.declared.Alone.the-variants.{Only, Other}
 use Rattle.sheets.specs.Check.{sizeWord, behindOf, placed, none as nobody}
-use Rattle.sheets.specs.Promise.{numberOf}
+use Rattle.refusals.specs.Table as table
+use Rattle.sheets.specs.Promise.{refusalOf}
 use Rattle.sheets.specs.declared.SheetFault.{SheetFault}
 use Rattle.sheets.specs.declared.SheetFault.the-variants.{Long, Line, Member, Order, Twice, Clash, Ends, Missing, Extra}
 use Rattle.sheets.specs.declared.Progress.{Progress}
@@ -32,6 +33,10 @@ use Rattle.texts.proofs.Refusals.{if-cases}
 use Rattle.texts.proofs.ListLines.{unended-none}
 use Rattle.texts.proofs.SheetKinds.{size-kind, member-kind, kind-size, kind-member, laid-one}
 use Rattle.texts.proofs.SheetSteps.{opening}
+
+-- the number of a fault of a sheet
+abbrev pub numberOf : SheetFault → ℕ
+numberOf f = table.numberOf (refusalOf f)
 
 -- ---- the rest of a text
 

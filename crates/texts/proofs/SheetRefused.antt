@@ -21,8 +21,7 @@ use Rattle.lines.specs.declared.Alone.{Alone}
 use Rattle.lines.specs.declared.Alone.the-variants.{Only, Other}
 use Rattle.lists.specs.Read.{inside}
 use Rattle.lists.proofs.Fold.{inside-is}
-use Rattle.sheets.specs.Check.{accepted, groupsWord, sizeWord, behindOf, groupsOf, sizeOf, placed, memberOf, stepOf, met, none as nobody, start}
-use Rattle.sheets.specs.Promise.{numberOf}
+use Rattle.sheets.specs.Check.{accepted, groupsWord, sizeWord, behindOf, groupsOf, sizeOf, placed, memberOf, stepOf, met, none as nobody, start, noColoursUpTo, refusedUpTo, finishUpTo, cutUpTo, afterUpTo, checkFromUpTo, sheetUpTo}
 use Rattle.sheets.specs.declared.SheetFault.{SheetFault}
 use Rattle.sheets.specs.declared.SheetFault.the-variants.{Long, Line, Member, Order, Twice, Clash, Ends, Missing, Extra}
 use Rattle.sheets.specs.declared.Checked.{Checked}
@@ -31,7 +30,6 @@ use Rattle.sheets.specs.declared.Outcome.{Outcome}
 use Rattle.sheets.specs.declared.Progress.{Progress}
 use Rattle.sheets.specs.declared.Step.{Step}
 use Rattle.sheets.specs.declared.Step.the-variants.{Stop, Count, Place}
-use Rattle.texts.proofs.ShimCheck.{noColoursUpTo, refusedUpTo, finishUpTo, cutUpTo, afterUpTo, checkFromUpTo, sheetUpTo}
 use Rattle.texts.specs.Faults.{Unended, Outside, Clean, InLine, AtEnd, Faultless}
 use Rattle.texts.specs.SheetFaults.{Kind, groupsLine, kindOf, Group, Saying, nothing, says, laid, before, OverPlace, StandsIn, HasAt, Has, sheetOrder, LacksAt, Lacks, SheetRefused}
 use Rattle.texts.specs.SheetFaults as words
@@ -39,7 +37,7 @@ use Rattle.texts.proofs.Refusals.{if-cases, refusal-make}
 use Rattle.texts.proofs.ListLines.{unended-none}
 use Rattle.texts.proofs.SheetKinds.{groups-kind, kind-groups, laid-one}
 use Rattle.texts.proofs.SheetSteps.{opening, begins}
-use Rattle.texts.proofs.SheetLineFaults.{After, after-whole, after-next, stands-split, split-stands, Found, Held, line-clean, line-found, clean-more, extra, misshaped, in-text, no-size, size-held, no-member, outside, unordered, twice, clashes, member-held}
+use Rattle.texts.proofs.SheetLineFaults.{numberOf, After, after-whole, after-next, stands-split, split-stands, Found, Held, line-clean, line-found, clean-more, extra, misshaped, in-text, no-size, size-held, no-member, outside, unordered, twice, clashes, member-held}
 
 -- at an end that is not over, or where an entry is absent, a test is failed
 not-all : (n : ℕ) (p : ℕ → Bool) → all n p ≡ false → (j : ℕ) × (j < n) × (p j ≡ false)

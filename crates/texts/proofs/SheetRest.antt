@@ -19,8 +19,7 @@ use Rattle.clashes.specs.Divisions.{at}
 use Rattle.clashes.specs.Matrix.{Valid}
 use Rattle.lines.specs.Text.{Text, done, unended, ended}
 use Rattle.lines.specs.Numeral.{numeral, oneLine}
-use Rattle.sheets.specs.Check.{sizeWord, placed, stepOf, met, none as nobody, accepted}
-use Rattle.texts.proofs.ShimCheck.{refusedUpTo, afterUpTo, checkFromUpTo}
+use Rattle.sheets.specs.Check.{sizeWord, placed, stepOf, met, none as nobody, accepted, refusedUpTo, afterUpTo, checkFromUpTo}
 use Rattle.sheets.specs.declared.SheetFault.{SheetFault}
 use Rattle.sheets.specs.declared.SheetFault.the-variants.{Missing, Ends, Extra, Line}
 use Rattle.sheets.specs.declared.Checked.{Checked}
