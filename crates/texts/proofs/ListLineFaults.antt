@@ -141,7 +141,7 @@ module _ (most : ℕ) (t0 : Text) (room i : ℕ) (h : Head) (l : List ℕ) (t : 
     pub second : h .seen ≡ true → Found most t0 room Second (i + 1)
     second q = stop Second ((n, m, p-here), (h .n, one-before q)) low
       where
-        low : (g : Fault) → place listOrder (numberOf g) < 2 → ¬ Has most t0 room (i + 1) (numberOf g)
+        low : (g : Fault) → place listOrder (numberOf g) < place listOrder (numberOf Second) → ¬ Has most t0 room (i + 1) (numberOf g)
         low Line p x = p-not-bad x
         low Headless p x = p-not-e (x .0 .0) (x .0 .1) (x .0 .2)
         low Second p x = omega arith
@@ -155,7 +155,7 @@ module _ (most : ℕ) (t0 : Text) (room i : ℕ) (h : Head) (l : List ℕ) (t : 
     pub large : h .seen ≡ false → most < n → Found most t0 room Size (i + 1)
     large q b = stop Size (n, m, p-here, b) low
       where
-        low : (g : Fault) → place listOrder (numberOf g) < 3 → ¬ Has most t0 room (i + 1) (numberOf g)
+        low : (g : Fault) → place listOrder (numberOf g) < place listOrder (numberOf Size) → ¬ Has most t0 room (i + 1) (numberOf g)
         low Line p x = p-not-bad x
         low Headless p x = p-not-e (x .0 .0) (x .0 .1) (x .0 .2)
         low Second p x = p-first q x
@@ -169,7 +169,7 @@ module _ (most : ℕ) (t0 : Text) (room i : ℕ) (h : Head) (l : List ℕ) (t : 
     pub roomless : h .seen ≡ false → n ≤ most → room < n → Found most t0 room Room (i + 1)
     roomless q b d = stop Room (n, m, p-here, d) low
       where
-        low : (g : Fault) → place listOrder (numberOf g) < 4 → ¬ Has most t0 room (i + 1) (numberOf g)
+        low : (g : Fault) → place listOrder (numberOf g) < place listOrder (numberOf Room) → ¬ Has most t0 room (i + 1) (numberOf g)
         low Line p x = p-not-bad x
         low Headless p x = p-not-e (x .0 .0) (x .0 .1) (x .0 .2)
         low Second p x = p-first q x
@@ -208,7 +208,7 @@ module _ (most : ℕ) (t0 : Text) (room i : ℕ) (h : Head) (l : List ℕ) (t : 
     pub headless : h .seen ≡ false → Found most t0 room Headless (i + 1)
     headless q = stop Headless ((u, v, e-here), none-before q) low
       where
-        low : (g : Fault) → place listOrder (numberOf g) < 1 → ¬ Has most t0 room (i + 1) (numberOf g)
+        low : (g : Fault) → place listOrder (numberOf g) < place listOrder (numberOf Headless) → ¬ Has most t0 room (i + 1) (numberOf g)
         low Line p x = e-not-bad x
         low Headless p x = omega arith
         low Second p x = omega arith
@@ -225,7 +225,7 @@ module _ (most : ℕ) (t0 : Text) (room i : ℕ) (h : Head) (l : List ℕ) (t : 
     pub vertex : h .seen ≡ true → Outside (h .n) u ⊎ Outside (h .n) v → Found most t0 room Vertex (i + 1)
     vertex q o = stop Vertex (u, v, h .n, e-here, one-before q, o) low
       where
-        low : (g : Fault) → place listOrder (numberOf g) < 5 → ¬ Has most t0 room (i + 1) (numberOf g)
+        low : (g : Fault) → place listOrder (numberOf g) < place listOrder (numberOf Vertex) → ¬ Has most t0 room (i + 1) (numberOf g)
         low Line p x = e-not-bad x
         low Headless p x = headed q x
         low Second p x = e-not-p (x .0 .0) (x .0 .1) (x .0 .2)
@@ -245,7 +245,7 @@ module _ (most : ℕ) (t0 : Text) (room i : ℕ) (h : Head) (l : List ℕ) (t : 
     pub loop : h .seen ≡ true → (1 ≤ u) × (u ≤ h .n) → (1 ≤ v) × (v ≤ h .n) → u ≡ v → Found most t0 room Loop (i + 1)
     loop q a b s = stop Loop (u, subst (λ (y : ℕ). At t0 (i + 1) (E u y)) (sym s) e-here) low
       where
-        low : (g : Fault) → place listOrder (numberOf g) < 6 → ¬ Has most t0 room (i + 1) (numberOf g)
+        low : (g : Fault) → place listOrder (numberOf g) < place listOrder (numberOf Loop) → ¬ Has most t0 room (i + 1) (numberOf g)
         low Line p x = e-not-bad x
         low Headless p x = headed q x
         low Second p x = e-not-p (x .0 .0) (x .0 .1) (x .0 .2)

@@ -165,7 +165,7 @@ module _ (n : ℕ) (clash : ℕ → ℕ → Bool) where
     pub extra : OverPlace (says k gs) → Found t0 Extra (suc i)
     extra o = line-found t0 i (says k gs) e Extra w c o low
       where
-        low : (g : SheetFault) → place sheetOrder (numberOf g) < 5 → ¬ HasAt n clash t0 (suc i) (says k gs) (numberOf g)
+        low : (g : SheetFault) → place sheetOrder (numberOf g) < place sheetOrder (numberOf Extra) → ¬ HasAt n clash t0 (suc i) (says k gs) (numberOf g)
         low Line c x = ⊎-elim (λ y. ⊎-elim (λ z. z .0) (λ y. ⊎-elim (λ z. omega (arith, z .0 .1, o .1)) (λ z. omega (arith, z .0, o .0)) y) y) (λ y. y .1 o) x
         low Member c x = omega (arith, x .1 .0, o .0)
         low Order c x = omega (arith, x .1 .0, o .0)
@@ -280,7 +280,7 @@ module _ (n : ℕ) (clash : ℕ → ℕ → Bool) where
         pub outside : Outside n u → Found t0 Member (suc i)
         outside o = refuse Member (u, stands, o) low
           where
-            low : (g : SheetFault) → place sheetOrder (numberOf g) < 1 → ¬ HasAt n clash t0 (suc i) (says k gs) (numberOf g)
+            low : (g : SheetFault) → place sheetOrder (numberOf g) < place sheetOrder (numberOf Member) → ¬ HasAt n clash t0 (suc i) (says k gs) (numberOf g)
             low Line c x = shaped x
             low Member c x = omega arith
             low Order c x = omega arith
@@ -295,7 +295,7 @@ module _ (n : ℕ) (clash : ℕ → ℕ → Bool) where
           pub unordered : u ≤ p .floor → Found t0 Order (suc i)
           unordered d = refuse Order (u, stands, omega (arith, h .floor)) low
             where
-              low : (g : SheetFault) → place sheetOrder (numberOf g) < 2 → ¬ HasAt n clash t0 (suc i) (says k gs) (numberOf g)
+              low : (g : SheetFault) → place sheetOrder (numberOf g) < place sheetOrder (numberOf Order) → ¬ HasAt n clash t0 (suc i) (says k gs) (numberOf g)
               low Line c x = shaped x
               low Member c x = entered b x
               low Order c x = omega arith
@@ -310,7 +310,7 @@ module _ (n : ℕ) (clash : ℕ → ℕ → Bool) where
             pub twice : earlier (u - 1) ≡ true → Found t0 Twice (suc i)
             twice q = refuse Twice (u, stands, subst (StandsIn (earlierOf gs)) (back (b .0)) (h .earlier-in (u - 1) (subst T (sym q) tt))) low
               where
-                low : (g : SheetFault) → place sheetOrder (numberOf g) < 3 → ¬ HasAt n clash t0 (suc i) (says k gs) (numberOf g)
+                low : (g : SheetFault) → place sheetOrder (numberOf g) < place sheetOrder (numberOf Twice) → ¬ HasAt n clash t0 (suc i) (says k gs) (numberOf g)
                 low Line c x = shaped x
                 low Member c x = entered b x
                 low Order c x = ordered d x
@@ -331,7 +331,7 @@ module _ (n : ℕ) (clash : ℕ → ℕ → Bool) where
                   (u, stands, (suc j, h .mates-in j (and-l (mates j) (clash (u - 1) j) (w .2)), subst (λ (y : ℕ). T (clash (u - 1) y)) (sym z) (and-r (mates j) (clash (u - 1) j) (w .2))))
                   low
                 where
-                  low : (g : SheetFault) → place sheetOrder (numberOf g) < 4 → ¬ HasAt n clash t0 (suc i) (says k gs) (numberOf g)
+                  low : (g : SheetFault) → place sheetOrder (numberOf g) < place sheetOrder (numberOf Clash) → ¬ HasAt n clash t0 (suc i) (says k gs) (numberOf g)
                   low Line c x = shaped x
                   low Member c x = entered b x
                   low Order c x = ordered d x

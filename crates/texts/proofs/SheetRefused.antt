@@ -81,7 +81,7 @@ module _ (most n : ℕ) (clash : ℕ → ℕ → Bool) where
     lacks-none : OverPlace x → ((u : ℕ) → 1 ≤ u → u ≤ n → StandsIn (words.groupsOf x) u) → (f : ℕ) → ¬ Lacks n t f
     lacks-none o a f h =
         if-cases (eqb f 35) (lacks-at f h) (λ _ y. y o)
-        (λ _ h. if-cases (eqb f 36) h (λ _ y. let w = y .1 in w .3 (a (w .0) (w .1) (w .2))) (λ _ y. y))
+        (λ _ h. if-cases (eqb f 36) h (λ _ y. let w = y .1 in w .3 (a (w .0) (w .1) (omega (arith, w .1, w .2)))) (λ _ y. y))
 
   module _ (t0 : Text) (i k : ℕ) (gs : List Group) (p : Progress) (mates earlier : ℕ → Bool) (c : List ℕ) where
     end-means : Held n clash t0 i k gs p mates earlier done → Means t0 (finishUpTo most n p mates earlier c (i + 1) .answer)
