@@ -25,7 +25,7 @@ use Rattle.lists.specs.Promise.{numberOf}
 use Rattle.texts.specs.Faults.{Unended, Outside, place, Clean, InLine, AtEnd}
 use Rattle.texts.specs.Listed.{At, edgeLines}
 use Rattle.texts.specs.ListFaults.{PBefore, Has, listOrder, Lacks}
-use Rattle.texts.proofs.Refusals.{if-cases}
+use Rattle.texts.proofs.Refusals.{if-cases, in-order}
 use Rattle.texts.proofs.ListLines.{Rest, rest-next, unended-none}
 
 abbrev pub Found : ℕ → Text → ℕ → Fault → ℕ → Type 0
@@ -45,18 +45,18 @@ has-fault most t room k f h =
     (λ _ h. if-cases (eqb f 15) h (λ e _. (Loop, eqb-true f 15 e)) (λ _ h. absurd h)))))))
 
 pub has-known : (most : ℕ) (t : Text) (room k f : ℕ) → Has most t room k f → In f listOrder
-has-known most t room k f h = let w = has-fault most t room k f h in go (w .0) (w .1) (subst (Has most t room k) (w .1) h)
+has-known most t room k f h = let w = has-fault most t room k f h in subst (λ (m : ℕ). In m listOrder) (sym (w .1)) (go (w .0) (subst (Has most t room k) (w .1) h))
   where
-    go : (g : Fault) → f ≡ numberOf g → Has most t room k (numberOf g) → In f listOrder
-    go Line e x = inl e
-    go Headless e x = inr (inl e)
-    go Second e x = inr (inr (inl e))
-    go Size e x = inr (inr (inr (inl e)))
-    go Room e x = inr (inr (inr (inr (inl e))))
-    go Vertex e x = inr (inr (inr (inr (inr (inl e)))))
-    go Loop e x = inr (inr (inr (inr (inr (inr (inl e))))))
-    go Count e x = absurd x
-    go Long e x = absurd x
+    go : (g : Fault) → Has most t room k (numberOf g) → In (numberOf g) listOrder
+    go Line x = in-order listOrder 10 tt
+    go Headless x = in-order listOrder 11 tt
+    go Second x = in-order listOrder 12 tt
+    go Size x = in-order listOrder 13 tt
+    go Room x = in-order listOrder 17 tt
+    go Vertex x = in-order listOrder 14 tt
+    go Loop x = in-order listOrder 15 tt
+    go Count x = absurd x
+    go Long x = absurd x
 
 pub clean-of : (most : ℕ) (t : Text) (room k : ℕ) → ((g : Fault) → ¬ Has most t room k (numberOf g)) → Clean (Has most t room) k
 clean-of most t room k c f h = let w = has-fault most t room k f h in c (w .0) (subst (Has most t room k) (w .1) h)

@@ -7,9 +7,10 @@ use mathlib.Core.Bool.{Bool, true, false, cond}
 use native.Mathlib.Omega.{arith}
 use native.Mathlib.Decide.{decLt}
 use borrow.Author.Tests.{eqb-true, eqb-false}
-use lib.Dec.{T, eqb}
+use lib.Dec.{T, eqb, eqb→eq}
 use lib.ListN.{length}
-use Rattle.sets.specs.Lists.{In}
+use Rattle.sets.specs.Lists.{In, some?}
+use Rattle.sets.proofs.TestLaws.{or-cases}
 use Rattle.refusals.specs.Table.{numberOf, If}
 use Rattle.refusals.specs.declared.Refusal.the-variants.{Long}
 use Rattle.lines.specs.Text.{Text, linesOf, lineCount}
@@ -40,6 +41,11 @@ nth-place (g ∷ order) f h = go (eqb f g) refl (nth-place order f)
     go : (b : Bool) → eqb f g ≡ b → (In f order → nth order (place order f) ≡ f) → nth (g ∷ order) (cond b 0 (suc (place order f))) ≡ f
     go true e r = sym (eqb-true f g e)
     go false e r = ⊎-elim (λ x. absurd (eqb-false f g e x)) r h
+
+-- a number that an order has, by looking it up
+pub in-order : (order : List ℕ) (f : ℕ) → T (some? (eqb f) order) → In f order
+in-order [] f h = absurd h
+in-order (g ∷ order) f h = ⊎-elim (λ x. inl (eqb→eq f g x)) (λ x. inr (in-order order f x)) (or-cases (eqb f g) (some? (eqb f) order) h)
 
 place-one : (order : List ℕ) (f g : ℕ) → In f order → In g order → place order f ≡ place order g → f ≡ g
 place-one order f g a b e = sym (nth-place order f a) ∙ ap (nth order) e ∙ nth-place order g b

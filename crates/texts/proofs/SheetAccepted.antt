@@ -93,7 +93,7 @@ module _ (most longest n : ℕ) (few : n ≤ most) (clash : ℕ → ℕ → Bool
         ∙ ap (λ (x : ℕ). oneLine groupsWord x ++ groupsText c 0 x) (sym left-is)
 
     is-sheet : (l : List ℕ) → l ≡ groupsWord ++ numeral g → length (bytesOf (ended l t)) ≤ longest → SheetOf longest n clash (bytesOf (ended l t)) k c
-    is-sheet l e h = record { short = h; division = divides; free = parted; many = counted; text = whole l e }
+    is-sheet l e h = record { short = h; division = divides; free = search parted; many = counted; text = whole l e }
 
   lines-accepted : (t : Text) (k : ℕ) (w : List ℕ) → length (bytesOf t) ≤ longest → checkFromUpTo most t n clash 1 start nobody nobody (noColoursUpTo most) .answer ≡ Accepted k
       → checkFromUpTo most t n clash 1 start nobody nobody (noColoursUpTo most) .colours ≡ w → SheetOf longest n clash (bytesOf t) k (take n w)

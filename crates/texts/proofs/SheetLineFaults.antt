@@ -29,7 +29,7 @@ use Rattle.sheets.specs.declared.SheetFault.the-variants.{Long, Line, Member, O
 use Rattle.sheets.specs.declared.Progress.{Progress}
 use Rattle.texts.specs.Faults.{Unended, Outside, place, Clean, InLine, AtEnd}
 use Rattle.texts.specs.SheetFaults.{Kind, groupsLine, sizeLine, memberLine, kindOf, kindAt, Group, Saying, nothing, says, groupsOf, laid, before, needOf, GroupsPlace, MemberPlace, SizePlace, OverPlace, earliest, firstIn, firstOf, floorIn, floorOf, nowOf, earlierOf, StandsIn, ClashIn, Misshaped, MemberAt, HasAt, Has, sheetOrder, LacksAt, Lacks}
-use Rattle.texts.proofs.Refusals.{if-cases}
+use Rattle.texts.proofs.Refusals.{if-cases, in-order}
 use Rattle.texts.proofs.ListLines.{unended-none}
 use Rattle.texts.proofs.SheetKinds.{size-kind, member-kind, kind-size, kind-member, laid-one}
 use Rattle.texts.proofs.SheetSteps.{opening}
@@ -98,18 +98,18 @@ module _ (n : ℕ) (clash : ℕ → ℕ → Bool) where
       (λ _ h. if-cases (eqb f 37) h (λ e _. (Extra, eqb-true f 37 e)) (λ _ h. absurd h))))))
 
   at-known : (t : Text) (k : ℕ) (x : Saying) (f : ℕ) → HasAt n clash t k x f → In f sheetOrder
-  at-known t k x f h = let w = at-fault t k x f h in go (w .0) (w .1) (subst (HasAt n clash t k x) (w .1) h)
+  at-known t k x f h = let w = at-fault t k x f h in subst (λ (m : ℕ). In m sheetOrder) (sym (w .1)) (go (w .0) (subst (HasAt n clash t k x) (w .1) h))
     where
-      go : (g : SheetFault) → f ≡ numberOf g → HasAt n clash t k x (numberOf g) → In f sheetOrder
-      go Line e x = inl e
-      go Member e x = inr (inl e)
-      go Order e x = inr (inr (inl e))
-      go Twice e x = inr (inr (inr (inl e)))
-      go Clash e x = inr (inr (inr (inr (inl e))))
-      go Extra e x = inr (inr (inr (inr (inr (inl e)))))
-      go Ends e x = absurd x
-      go Missing e x = absurd x
-      go Long e x = absurd x
+      go : (g : SheetFault) → HasAt n clash t k x (numberOf g) → In (numberOf g) sheetOrder
+      go Line x = in-order sheetOrder 30 tt
+      go Member x = in-order sheetOrder 31 tt
+      go Order x = in-order sheetOrder 32 tt
+      go Twice x = in-order sheetOrder 33 tt
+      go Clash x = in-order sheetOrder 34 tt
+      go Extra x = in-order sheetOrder 37 tt
+      go Ends x = absurd x
+      go Missing x = absurd x
+      go Long x = absurd x
 
   pub has-known : (t : Text) (k f : ℕ) → Has n clash t k f → In f sheetOrder
   has-known t zero f h = absurd h
@@ -265,9 +265,6 @@ module _ (n : ℕ) (clash : ℕ → ℕ → Bool) where
         back : 1 ≤ u → suc (u - 1) ≡ u
         back b = omega arith
 
-        once : 1 ≤ u → earlier (u - 1) ≡ false → ¬ HasAt n clash t0 (suc i) (says k gs) (numberOf Twice)
-        once b c x = subst T c (h .in-earlier (u - 1) (subst (StandsIn (earlierOf gs)) (that (x .0) (x .1 .1) ∙ sym (back b)) (x .2)))
-
         calm : any n (λ j. mates j && clash (u - 1) j) ≡ false → ¬ HasAt n clash t0 (suc i) (says k gs) (numberOf Clash)
         calm c x =
             let o = subst (ClashIn clash (nowOf gs)) (that (x .0) (x .1 .1)) (x .2) in
@@ -322,6 +319,9 @@ module _ (n : ℕ) (clash : ℕ → ℕ → Bool) where
                 low Long c x = x
 
             module _ (q : earlier (u - 1) ≡ false) where
+              once : ¬ HasAt n clash t0 (suc i) (says k gs) (numberOf Twice)
+              once x = subst T q (h .in-earlier (u - 1) (subst (StandsIn (earlierOf gs)) (that (x .0) (x .1 .1) ∙ sym (back (b .0))) (x .2)))
+
               pub clashes : any n (λ j. mates j && clash (u - 1) j) ≡ true → Found t0 Clash (suc i)
               clashes c =
                   let w = any-get n (λ j. mates j && clash (u - 1) j) (subst T (sym c) tt) in
@@ -335,7 +335,7 @@ module _ (n : ℕ) (clash : ℕ → ℕ → Bool) where
                   low Line c x = shaped x
                   low Member c x = entered b x
                   low Order c x = ordered d x
-                  low Twice c x = once (b .0) q x
+                  low Twice c x = once x
                   low Clash c x = omega arith
                   low Extra c x = omega arith
                   low Ends c x = x
@@ -346,7 +346,7 @@ module _ (n : ℕ) (clash : ℕ → ℕ → Bool) where
               member-clean c Line x = shaped x
               member-clean c Member x = entered b x
               member-clean c Order x = ordered d x
-              member-clean c Twice x = once (b .0) q x
+              member-clean c Twice x = once x
               member-clean c Clash x = calm c x
               member-clean c Extra x = omega (arith, x .0, here)
               member-clean c Ends x = x
