@@ -6,12 +6,12 @@
 use Prim.Native.Nat.{ℕ, zero, suc, _+_, _≤_, _<_}
 use mathlib.Core.Path.{_≡_, refl, sym, ap, subst, fun-ext, _∙_}
 use mathlib.Core.Logic.{_⊎_, inl, inr, ⊎-elim}
-use mathlib.Core.List.{List, [], _∷_, _++_}
-use mathlib.Core.Bool.{Bool, true, false, cond}
+use mathlib.Core.List.{List}
+use mathlib.Core.Bool.{Bool, true, false}
 use native.Mathlib.Decide.{decLt}
 use native.Mathlib.Omega.{arith}
 use borrow.Author.Tests.{leb-true}
-use lib.Dec.{T, leb, eqb}
+use lib.Dec.{T, leb}
 use lib.ListN.{length, getD, take, replicate, length-take, length-replicate, List·getD-eq-default}
 use lib.Seq.{getD-take, length-take-le}
 use Rattle.sets.specs.Set.{has}
@@ -21,17 +21,18 @@ use Rattle.sets.proofs.TestLaws.{T-ext}
 use Rattle.clashes.specs.Matrix.{matrix}
 use Rattle.lines.specs.Text.{Text, done, unended, ended, linesOf}
 use Rattle.lists.specs.Shape.{shapeOf, isE}
-use Rattle.lists.specs.Read.{accepted, start, noRowsUpTo, refusedUpTo, stepUpTo, afterUpTo, readFromUpTo, readUpTo}
+use Rattle.lists.specs.Read.{start, noRowsUpTo, stepUpTo, afterUpTo, readFromUpTo, readUpTo}
 use Rattle.lists.specs.declared.Shape.{Shape}
 use Rattle.lists.specs.declared.Shape.the-variants.{Comment, P, E, Bad}
-use Rattle.lists.specs.declared.Fault.the-variants.{Line, Headless, Second, Size, Room, Count, Long}
 use Rattle.lists.specs.declared.Head.{Head}
 use Rattle.lists.specs.declared.Step.{Step}
-use Rattle.lists.specs.declared.Step.the-variants.{Stop, Go}
-use Rattle.lists.specs.declared.Reading.the-variants.{Read}
+use Rattle.lists.specs.declared.Reading.{Reading}
+use Rattle.lists.specs.declared.Reading.the-variants.{Read, Refused}
+use Rattle.lists.specs.declared.Found.{Found}
+use Rattle.lines.proofs.Basics.{cond-cases}
 use Rattle.texts.specs.Listed.{At, EdgeLine, edgeLines, Whole, Proper, ListOf}
 use Rattle.texts.proofs.ListLines.{at-first, at-later, at-cases, at-none}
-use Rattle.texts.proofs.ListBody.{refusal, Body, edge-later, edge-back, edge-back-p, unseen-e, body}
+use Rattle.texts.proofs.ListBody.{Body, Bodied, edge-later, edge-back, edge-back-p, body}
 
 -- ---- before the p line
 
@@ -62,12 +63,15 @@ front-comment most room l t n w e r = record {
   header = at-later l t (r .head) _ (r .header);
   only = λ k a b x. ⊎-elim (λ y. let z : _≡_ {A = ℕ} 0 1 = cc (y .1) in omega arith) (λ y. y .1 ∙ ap suc (r .only (y .0) a b (y .2))) (at-cases l t k (P a b) x);
   counted = let z = ap (λ (x : Shape). bit (isE x)) e in omega (arith, r .counted);
-  edges = λ k u v x. ⊎-elim (λ y. let z : _≡_ {A = ℕ} 0 1 = cc (y .1) in absurd (omega arith)) (λ y. let q = r .edges (y .0) u v (y .2) in (omega (arith, q .0, y .1), q .1)) (at-cases l t k (E u v) x);
+  edges = λ k u v x.
+      ⊎-elim (λ y. let z : _≡_ {A = ℕ} 0 1 = cc (y .1) in absurd (omega arith))
+      (λ y. let q = r .edges (y .0) u v (y .2) in (omega (arith, q .0, y .1), q .1)) (at-cases l t k (E u v) x);
   was = λ i j x. edge-later l t i j (r .was i j x);
   new = λ i j x. r .new i j (edge-back l t e i j x);
 }
 
-front-header : (most room : ℕ) (l : List ℕ) (t : Text) (n m : ℕ) (w : List ℕ) → shapeOf l ≡ P n m → length w ≡ most → n ≤ most → n ≤ room → (h : Head) → h .n ≡ n → h .m ≡ m → h .count ≡ 0 → (g : List ℕ)
+front-header : (most room : ℕ) (l : List ℕ) (t : Text) (n m : ℕ) (w : List ℕ) → shapeOf l ≡ P n m → length w ≡ most → n ≤ most → n ≤ room → (h : Head)
+    → h .n ≡ n → h .m ≡ m → h .count ≡ 0 → (g : List ℕ)
     → ((i j : ℕ) → T (matrix g i j) → ⊥) → Body t h g n w → Front most room (ended l t) n w
 front-header most room l t n m w e z f d h hn hm hc g bare r = record {
   long = z;
@@ -80,39 +84,64 @@ front-header most room l t n m w e z f d h hn hm hc g bare r = record {
   header = at-first l t _ e;
   only = λ k a b x. ⊎-elim (λ y. y .0) (λ y. absurd (r .no-p (y .0) a b (y .2))) (at-cases l t k (P a b) x);
   counted = let z = ap (λ (x : Shape). bit (isE x)) e in omega (arith, r .counted);
-  edges = λ k u v x. ⊎-elim (λ y. let z : _≡_ {A = ℕ} 0 1 = cc (y .1) in absurd (omega arith)) (λ y. (omega (arith, y .1, y .2 .0 .0), r .edges (y .0) u v (y .2))) (at-cases l t k (E u v) x);
+  edges = λ k u v x.
+      ⊎-elim (λ y. let z : _≡_ {A = ℕ} 0 1 = cc (y .1) in absurd (omega arith))
+      (λ y. (omega (arith, y .1, y .2 .0 .0), r .edges (y .0) u v (y .2))) (at-cases l t k (E u v) x);
   was = λ i j x. ⊎-elim (λ y. absurd (bare i j y)) (λ y. edge-later l t i j y) (r .was i j x);
   new = λ i j x. r .new i j (edge-back-p l t n m e i j x);
 }
 
-front : (most room : ℕ) (t : Text) (line : ℕ) (h : Head) (g : List ℕ) → h .seen ≡ false → length g ≡ most → ((i j : ℕ) → T (matrix g i j) → ⊥) → (n : ℕ) (w : List ℕ)
-    → readFromUpTo most t room line h g .answer ≡ Read n → readFromUpTo most t room line h g .rows ≡ w → Front most room t n w
-front most room done line h g q z bare n w a b = absurd (refusal most Headless line n (subst (λ (x : Bool). cond x (cond (eqb (h .count) (h .m)) (accepted (h .n) g) (refusedUpTo most Count line)) (refusedUpTo most Headless line) .answer ≡ Read n) q a))
-front most room (unended l) line h g q z bare n w a b = absurd (refusal most Line line n a)
-front most room (ended l t) line h g q z bare n w a b = go (shapeOf l) refl (front most room t (line + 1)) a b
-  where
-    header : (c d : ℕ) → shapeOf l ≡ P c d → (x : Bool) → x ≡ false → (y : Bool) → leb c most ≡ y → (v : Bool) → leb c room ≡ v
-        → afterUpTo most (cond x (Stop Second) (cond y (cond v (Go (record { seen = true; n = c; m = d; count = 0 })) (Stop Room)) (Stop Size))) g line (readFromUpTo most t room (line + 1)) .answer ≡ Read n
-        → afterUpTo most (cond x (Stop Second) (cond y (cond v (Go (record { seen = true; n = c; m = d; count = 0 })) (Stop Room)) (Stop Size))) g line (readFromUpTo most t room (line + 1)) .rows ≡ w
-        → Front most room (ended l t) n w
-    header c d e false q true y true v a b =
-        let h : Head = record { seen = true; n = c; m = d; count = 0 } in
-        let r = body most t room (line + 1) h g refl (omega (arith, leb-true c most y)) n w a b in
-        let s = r .size in
-        front-header most room l t n d w (e ∙ ap (λ (x : ℕ). P x d) s) (r .long ∙ z) (omega (arith, leb-true c most y)) (omega (arith, leb-true c room v)) h s refl refl g bare r
-    header c d e false q true y false v a b = absurd (refusal most Room line n a)
-    header c d e false q false y v i a b = absurd (refusal most Size line n a)
-    header c d e true q y i v j a b = absurd (subst T q tt)
+-- what reading finds, where it accepts
+abbrev Fronted : ℕ → ℕ → Text → List ℕ → Reading → Type 0
+Fronted most room t w (Read n) = Front most room t n w
+Fronted most room t w (Refused f k) = Unit {0}
 
-    go : (s : Shape) → shapeOf l ≡ s
-        → ((h : Head) (g : List ℕ) → h .seen ≡ false → length g ≡ most → ((i j : ℕ) → T (matrix g i j) → ⊥) → (n : ℕ) (w : List ℕ)
-        → readFromUpTo most t room (line + 1) h g .answer ≡ Read n → readFromUpTo most t room (line + 1) h g .rows ≡ w → Front most room t n w)
-        → afterUpTo most (stepUpTo most h room s) g line (readFromUpTo most t room (line + 1)) .answer ≡ Read n
-        → afterUpTo most (stepUpTo most h room s) g line (readFromUpTo most t room (line + 1)) .rows ≡ w → Front most room (ended l t) n w
-    go Bad e r a b = absurd (refusal most Line line n a)
-    go Comment e r a b = front-comment most room l t n w e (r h g q z bare n w a b)
-    go (P c d) e r a b = header c d e (h .seen) q (leb c most) refl (leb c room) refl a b
-    go (E u v) e r a b = absurd (refusal most Headless line n (subst (λ (x : Step). afterUpTo most x g line (readFromUpTo most t room (line + 1)) .answer ≡ Read n) (unseen-e most h room u v q) a))
+abbrev FrontOf : ℕ → ℕ → Text → Found → Type 0
+FrontOf most room t x = Fronted most room t (x .rows) (x .answer)
+
+module _ (most room : ℕ) where
+  fronted-more : (l : List ℕ) (t : Text) (w : List ℕ) (a : Reading) → ((n : ℕ) → Front most room t n w → Front most room (ended l t) n w)
+      → Fronted most room t w a → Fronted most room (ended l t) w a
+  fronted-more l t w (Read n) f x = f n x
+  fronted-more l t w (Refused e k) f x = tt
+
+  fronted-body : (l : List ℕ) (t : Text) (h : Head) (g w : List ℕ) (a : Reading) → ((n : ℕ) → Body t h g n w → Front most room (ended l t) n w)
+      → Bodied t h g w a → Fronted most room (ended l t) w a
+  fronted-body l t h g w (Read n) f x = f n x
+  fronted-body l t h g w (Refused e k) f x = tt
+
+  front : (t : Text) (line : ℕ) (h : Head) (g : List ℕ) → h .seen ≡ false → length g ≡ most → ((i j : ℕ) → T (matrix g i j) → ⊥)
+      → FrontOf most room t (readFromUpTo most t room line h g)
+  front done line h g q z bare = cond-cases (FrontOf most room done) (h .seen) _ _ (λ e. absurd (subst T (sym e ∙ q) tt)) (λ _. tt)
+  front (unended l) line h g q z bare = tt
+  front (ended l t) line h g q z bare = go (shapeOf l) refl (front t (line + 1))
+    where
+      header : (c d : ℕ) → shapeOf l ≡ P c d → c ≤ most → c ≤ room → (h : Head) → h .n ≡ c → h .m ≡ d → h .count ≡ 0 → (n : ℕ) (w : List ℕ)
+          → Body t h g n w → Front most room (ended l t) n w
+      header c d e a b h x y v n w r =
+          let s : c ≡ n = sym x ∙ r .size in
+          front-header most room l t n d w (e ∙ ap (λ (x : ℕ). P x d) s) (r .long ∙ z) (omega arith) (omega arith) h (r .size) y v g bare r
+
+      go : (s : Shape) → shapeOf l ≡ s
+          → ((h : Head) (g : List ℕ) → h .seen ≡ false → length g ≡ most → ((i j : ℕ) → T (matrix g i j) → ⊥)
+          → FrontOf most room t (readFromUpTo most t room (line + 1) h g))
+          → FrontOf most room (ended l t) (afterUpTo most (stepUpTo most h room s) g line (readFromUpTo most t room (line + 1)))
+      go Bad e r = tt
+      go Comment e r = fronted-more l t _ (readFromUpTo most t room (line + 1) h g .answer) (λ n x. front-comment most room l t n _ e x) (r h g q z bare)
+      go (P c d) e r =
+          let F : Step → Type 0 = λ s. FrontOf most room (ended l t) (afterUpTo most s g line (readFromUpTo most t room (line + 1))) in
+          let x : Head = record { seen = true; n = c; m = d; count = 0 } in
+          cond-cases F (h .seen) _ _ (λ _. tt)
+          (λ _. cond-cases F (leb c most) _ _
+          (λ a. cond-cases F (leb c room) _ _
+          (λ b. fronted-body l t x g _ (readFromUpTo most t room (line + 1) x g .answer)
+          (λ n y. header c d e (leb-true c most a) (leb-true c room b) x refl refl refl n _ y)
+          (body most room t (line + 1) x g refl (omega (arith, leb-true c most a))))
+          (λ _. tt))
+          (λ _. tt))
+      go (E u v) e r =
+          let F : Step → Type 0 = λ s. FrontOf most room (ended l t) (afterUpTo most s g line (readFromUpTo most t room (line + 1))) in
+          cond-cases F (h .seen) _ _ (λ z. absurd (subst T (sym z ∙ q) tt)) (λ _. tt)
 
 -- ---- the whole text
 
@@ -125,14 +154,22 @@ none-bare most a b h = subst T (ap (λ (r : ℕ). has r b) (row most a) ∙ has-
     row (suc m) (suc i) = row m i
 
 module _ (most longest : ℕ) where
-  pub front-accepted : (s : List ℕ) (room n : ℕ) → readUpTo most longest s room .answer ≡ Read n
+  abbrev Shown : List ℕ → ℕ → List ℕ → Reading → Type 0
+  Shown s room w (Read n) = (length s ≤ longest) × Front most room (linesOf s) n w
+  Shown s room w (Refused f k) = Unit {0}
+
+  shown : (s : List ℕ) (room : ℕ) → length s ≤ longest → (w : List ℕ) (a : Reading) → Fronted most room (linesOf s) w a → Shown s room w a
+  shown s room h w (Read n) x = (h, x)
+  shown s room h w (Refused f k) x = tt
+
+  front-accepted : (s : List ℕ) (room n : ℕ) → readUpTo most longest s room .answer ≡ Read n
       → (length s ≤ longest) × Front most room (linesOf s) n (readUpTo most longest s room .rows)
-  front-accepted s room n a = go (leb (length s) longest) refl a
-    where
-      go : (b : Bool) → leb (length s) longest ≡ b → cond b (readFromUpTo most (linesOf s) room 1 start (noRowsUpTo most)) (refusedUpTo most Long 0) .answer ≡ Read n
-          → (length s ≤ longest) × Front most room (linesOf s) n (cond b (readFromUpTo most (linesOf s) room 1 start (noRowsUpTo most)) (refusedUpTo most Long 0) .rows)
-      go true e a = (leb-true (length s) longest e, front most room (linesOf s) 1 start (noRowsUpTo most) refl (length-replicate most 0) (none-bare most) n _ a refl)
-      go false e a = absurd (refusal most Long 0 n a)
+  front-accepted s room n a =
+      subst (Shown s room (readUpTo most longest s room .rows)) a
+      (cond-cases (λ (x : Found). Shown s room (x .rows) (x .answer)) (leb (length s) longest) _ _
+      (λ e. shown s room (leb-true (length s) longest e) _ (readFromUpTo most (linesOf s) room 1 start (noRowsUpTo most) .answer)
+      (front most room (linesOf s) 1 start (noRowsUpTo most) refl (length-replicate most 0) (none-bare most)))
+      (λ _. tt))
 
   -- the rows from n on have no clash
   module _ (s : List ℕ) (room n : ℕ) (w : List ℕ) (short : length s ≤ longest) (r : Front most room (linesOf s) n w) where
@@ -163,12 +200,13 @@ module _ (most longest : ℕ) where
       counted = r .counted;
       edges = r .edges;
       long = length-take-le n w (omega (arith, r .few, r .long));
-      clashes = λ i j. let e : matrix (take n w) i j ≡ matrix w i j = ap (λ (m : ℕ → ℕ → Bool). m i j) first-rows in (λ x. r .was i j (subst T e x), λ x. subst T (sym e) (r .new i j x));
+      clashes = λ i j. let e = ap (λ (m : ℕ → ℕ → Bool). m i j) first-rows in (λ x. r .was i j (subst T e x), λ x. subst T (sym e) (r .new i j x));
     }
 
   -- what is read as n entries is a list of n, whose clashes are those of the first n rows
   pub list-accepted : (s : List ℕ) (room n : ℕ) → readUpTo most longest s room .answer ≡ Read n
-      → ListOf most longest s n (take n (readUpTo most longest s room .rows)) × (n ≤ room) × (matrix (take n (readUpTo most longest s room .rows)) ≡ matrix (readUpTo most longest s room .rows))
+      → ListOf most longest s n (take n (readUpTo most longest s room .rows)) × (n ≤ room)
+      × (matrix (take n (readUpTo most longest s room .rows)) ≡ matrix (readUpTo most longest s room .rows))
   list-accepted s room n a =
       let r = front-accepted s room n a in
       let w = readUpTo most longest s room .rows in

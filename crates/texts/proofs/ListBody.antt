@@ -7,7 +7,7 @@ use Prim.Native.Nat.{ℕ, suc, _+_, _-_, _≤_, _<_}
 use mathlib.Core.Path.{_≡_, refl, sym, ap, subst, _∙_}
 use mathlib.Core.Logic.{_⊎_, inl, inr, ⊎-elim}
 use mathlib.Core.List.{List}
-use mathlib.Core.Bool.{Bool, true, false, cond}
+use mathlib.Core.Bool.{true}
 use native.Mathlib.Omega.{arith}
 use borrow.Author.Tests.{eqb-true, eqb-false}
 use lib.Dec.{T, eqb}
@@ -16,24 +16,19 @@ use Rattle.sets.specs.Lists.{bit}
 use Rattle.clashes.specs.Matrix.{matrix}
 use Rattle.lines.specs.Text.{Text, done, unended, ended}
 use Rattle.lists.specs.Shape.{shapeOf, isE}
-use Rattle.lists.specs.Read.{accepted, inside, edgeOf, join, refusedUpTo, stepUpTo, afterUpTo, readFromUpTo}
+use Rattle.lists.specs.Read.{inside, join, stepUpTo, afterUpTo, readFromUpTo}
 use Rattle.lists.specs.declared.Shape.{Shape}
 use Rattle.lists.specs.declared.Shape.the-variants.{Comment, P, E, Bad}
-use Rattle.lists.specs.declared.Fault.{Fault}
-use Rattle.lists.specs.declared.Fault.the-variants.{Line, Headless, Second, Vertex, Loop, Count}
 use Rattle.lists.specs.declared.Head.{Head}
 use Rattle.lists.specs.declared.Step.{Step}
-use Rattle.lists.specs.declared.Step.the-variants.{Stop, Go, Edge}
-use Rattle.lists.specs.declared.Reading.the-variants.{Read}
+use Rattle.lists.specs.declared.Reading.{Reading}
+use Rattle.lists.specs.declared.Reading.the-variants.{Read, Refused}
+use Rattle.lists.specs.declared.Found.{Found}
+use Rattle.lines.proofs.Basics.{cond-cases}
 use Rattle.lists.proofs.Fold.{inside-is, join-length}
 use Rattle.lists.proofs.Marks.{join-was, join-old, join-new}
 use Rattle.texts.specs.Listed.{At, EdgeLine, edgeLines, Whole, Proper}
 use Rattle.texts.proofs.ListLines.{at-first, at-later, at-cases, at-none}
-
-pub refusal : (most : ℕ) (f : Fault) (line n : ℕ) → refusedUpTo most f line .answer ≡ Read n → ⊥
-refusal most f line n a = let z : _≡_ {A = ℕ} 0 1 = cc in omega arith
-
--- ---- afterUpTo most the p line
 
 pub record Body (t : Text) (h : Head) (g : List ℕ) (n : ℕ) (w : List ℕ) : Type 0 where
   pub long : length w ≡ length g
@@ -77,15 +72,6 @@ edge-back l t e = edge-rest l t (λ u v y. let q : _≡_ {A = ℕ} 0 1 = cc in o
 
 pub edge-back-p : (l : List ℕ) (t : Text) (n m : ℕ) → shapeOf l ≡ P n m → (i j : ℕ) → EdgeLine (ended l t) i j → EdgeLine t i j
 edge-back-p l t n m e = edge-rest l t (λ u v y. let q : _≡_ {A = ℕ} 0 1 = cc in omega arith)
-
-second-p : (most : ℕ) (h : Head) (room c d : ℕ) → h .seen ≡ true → stepUpTo most h room (P c d) ≡ Stop Second
-second-p most h room c d q = rw q
-
-seen-e : (most : ℕ) (h : Head) (room u v : ℕ) → h .seen ≡ true → stepUpTo most h room (E u v) ≡ edgeOf h u v
-seen-e most h room u v q = rw q
-
-pub unseen-e : (most : ℕ) (h : Head) (room u v : ℕ) → h .seen ≡ false → stepUpTo most h room (E u v) ≡ Stop Headless
-unseen-e most h room u v q = rw q
 
 body-comment : (l : List ℕ) (t : Text) (h : Head) (g : List ℕ) (n : ℕ) (w : List ℕ) → shapeOf l ≡ Comment → Body t h g n w → Body (ended l t) h g n w
 body-comment l t h g n w e r = record {
@@ -154,44 +140,48 @@ body-edge l t h g n w u v e f p r = record {
         turned : (i j : ℕ) → E u v ≡ E (j + 1) (i + 1) → T (matrix w i j)
         turned i j q = let a : u ≡ j + 1 = cc in let b : v ≡ i + 1 = cc in r .old i j (join-new g (u - 1) (v - 1) hu hv i j (inr (omega arith, omega arith)))
 
-pub body : (most : ℕ) (t : Text) (room line : ℕ) (h : Head) (g : List ℕ) → h .seen ≡ true → h .n ≤ length g → (n : ℕ) (w : List ℕ)
-    → readFromUpTo most t room line h g .answer ≡ Read n → readFromUpTo most t room line h g .rows ≡ w → Body t h g n w
-body most done room line h g q f n w a b = go (h .seen) q (eqb (h .count) (h .m)) refl a b
-  where
-    go : (x : Bool) → x ≡ true → (y : Bool) → eqb (h .count) (h .m) ≡ y
-        → cond x (cond y (accepted (h .n) g) (refusedUpTo most Count line)) (refusedUpTo most Headless line) .answer ≡ Read n
-        → cond x (cond y (accepted (h .n) g) (refusedUpTo most Count line)) (refusedUpTo most Headless line) .rows ≡ w → Body done h g n w
-    go true q true e a b =
-        let m : h .n ≡ n = cc in
-        subst (λ (k : ℕ). Body done h g k w) m (subst (Body done h g (h .n)) b (body-end h g (eqb-true (h .count) (h .m) e)))
-    go true q false e a b = absurd (refusal most Count line n a)
-    go false q y e a b = absurd (subst T (sym q) tt)
-body most (unended l) room line h g q f n w a b = absurd (refusal most Line line n a)
-body most (ended l t) room line h g q f n w a b = go (shapeOf l) refl (body most t room (line + 1)) a b
-  where
-    edge : (u v : ℕ) → shapeOf l ≡ E u v → (x : Bool) → inside (h .n) u ≡ x → (y : Bool) → inside (h .n) v ≡ y → (d : Bool) → eqb u v ≡ d
-        → ((h : Head) (g : List ℕ) → h .seen ≡ true → h .n ≤ length g → (n : ℕ) (w : List ℕ)
-        → readFromUpTo most t room (line + 1) h g .answer ≡ Read n → readFromUpTo most t room (line + 1) h g .rows ≡ w → Body t h g n w)
-        → afterUpTo most (cond x (cond y (cond d (Stop Loop) (Edge (more h) (u - 1) (v - 1))) (Stop Vertex)) (Stop Vertex)) g line (readFromUpTo most t room (line + 1)) .answer ≡ Read n
-        → afterUpTo most (cond x (cond y (cond d (Stop Loop) (Edge (more h) (u - 1) (v - 1))) (Stop Vertex)) (Stop Vertex)) g line (readFromUpTo most t room (line + 1)) .rows ≡ w
-        → Body (ended l t) h g n w
-    edge u v e true x true y false d r a b =
-        body-edge l t h g n w u v e f (record { first = inside-is (h .n) u x; second = inside-is (h .n) v y; differ = eqb-false u v d })
-        (r (more h) (join g (u - 1) (v - 1)) refl (omega (arith, join-length g (u - 1) (v - 1))) n w a b)
-    edge u v e true x true y true d r a b = absurd (refusal most Loop line n a)
-    edge u v e true x false y d i r a b = absurd (refusal most Vertex line n a)
-    edge u v e false x y j d i r a b = absurd (refusal most Vertex line n a)
+-- ---- what reading finds, where it accepts
 
-    go : (s : Shape) → shapeOf l ≡ s
-        → ((h : Head) (g : List ℕ) → h .seen ≡ true → h .n ≤ length g → (n : ℕ) (w : List ℕ)
-        → readFromUpTo most t room (line + 1) h g .answer ≡ Read n → readFromUpTo most t room (line + 1) h g .rows ≡ w → Body t h g n w)
-        → afterUpTo most (stepUpTo most h room s) g line (readFromUpTo most t room (line + 1)) .answer ≡ Read n
-        → afterUpTo most (stepUpTo most h room s) g line (readFromUpTo most t room (line + 1)) .rows ≡ w → Body (ended l t) h g n w
-    go Bad e r a b = absurd (refusal most Line line n a)
-    go Comment e r a b = body-comment l t h g n w e (r h g q f n w a b)
-    go (P c d) e r a b = absurd (refusal most Second line n (subst (λ (x : Step). afterUpTo most x g line (readFromUpTo most t room (line + 1)) .answer ≡ Read n) (second-p most h room c d q) a))
-    go (E u v) e r a b =
-        edge u v e (inside (h .n) u) refl (inside (h .n) v) refl (eqb u v) refl r
-        (subst (λ (x : Step). afterUpTo most x g line (readFromUpTo most t room (line + 1)) .answer ≡ Read n) (seen-e most h room u v q) a)
-        (subst (λ (x : Step). afterUpTo most x g line (readFromUpTo most t room (line + 1)) .rows ≡ w) (seen-e most h room u v q) b)
+abbrev pub Bodied : Text → Head → List ℕ → List ℕ → Reading → Type 0
+Bodied t h g w (Read n) = Body t h g n w
+Bodied t h g w (Refused f k) = Unit {0}
 
+abbrev pub BodyOf : Text → Head → List ℕ → Found → Type 0
+BodyOf t h g x = Bodied t h g (x .rows) (x .answer)
+
+-- with a line more at the front
+bodied-more : (l : List ℕ) (t : Text) (h x : Head) (g y w : List ℕ) (a : Reading) → ((n : ℕ) → Body t x y n w → Body (ended l t) h g n w)
+    → Bodied t x y w a → Bodied (ended l t) h g w a
+bodied-more l t h x g y w (Read n) f b = f n b
+bodied-more l t h x g y w (Refused e k) f b = tt
+
+module _ (most room : ℕ) where
+  pub body : (t : Text) (line : ℕ) (h : Head) (g : List ℕ) → h .seen ≡ true → h .n ≤ length g → BodyOf t h g (readFromUpTo most t room line h g)
+  body done line h g q f =
+      let B = BodyOf done h g in
+      cond-cases B (h .seen) _ _ (λ _. cond-cases B (eqb (h .count) (h .m)) _ _ (λ e. body-end h g (eqb-true (h .count) (h .m) e)) (λ _. tt)) (λ _. tt)
+  body (unended l) line h g q f = tt
+  body (ended l t) line h g q f = go (shapeOf l) refl (body t (line + 1))
+    where
+      go : (s : Shape) → shapeOf l ≡ s
+          → ((h : Head) (g : List ℕ) → h .seen ≡ true → h .n ≤ length g → BodyOf t h g (readFromUpTo most t room (line + 1) h g))
+          → BodyOf (ended l t) h g (afterUpTo most (stepUpTo most h room s) g line (readFromUpTo most t room (line + 1)))
+      go Bad e r = tt
+      go Comment e r = bodied-more l t h h g g _ (readFromUpTo most t room (line + 1) h g .answer) (λ n x. body-comment l t h g n _ e x) (r h g q f)
+      go (P c d) e r =
+          let F : Step → Type 0 = λ s. BodyOf (ended l t) h g (afterUpTo most s g line (readFromUpTo most t room (line + 1))) in
+          cond-cases F (h .seen) _ _ (λ _. tt) (λ z. absurd (subst T (sym q ∙ z) tt))
+      go (E u v) e r =
+          let F : Step → Type 0 = λ s. BodyOf (ended l t) h g (afterUpTo most s g line (readFromUpTo most t room (line + 1))) in
+          let i = u - 1 in
+          let j = v - 1 in
+          cond-cases F (h .seen) _ _
+          (λ _. cond-cases F (inside (h .n) u) _ _
+          (λ a. cond-cases F (inside (h .n) v) _ _
+          (λ b. cond-cases F (eqb u v) _ _ (λ _. tt)
+          (λ d. bodied-more l t h (more h) g (join g i j) _ (readFromUpTo most t room (line + 1) (more h) (join g i j) .answer)
+          (λ n x. body-edge l t h g n _ u v e f (record { first = inside-is (h .n) u a; second = inside-is (h .n) v b; differ = eqb-false u v d }) x)
+          (r (more h) (join g i j) refl (omega (arith, join-length g i j)))))
+          (λ _. tt))
+          (λ _. tt))
+          (λ _. tt)
