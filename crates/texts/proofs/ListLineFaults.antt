@@ -1,7 +1,6 @@
 -- A line of a clash text, by what is known before it: the first fault that it has, or that it has none.
 --
 --   Told most t0 room i h t : what is known after the first i lines of t0, of which t are the rest, where none of them has a fault
---   Found most t room f k   : the lines t are refused with the fault f at line k, or at the end
 --
 -- Assumes nothing.
 use Prim.Native.Nat.{ℕ, _+_, _≤_, _<_}
@@ -25,41 +24,8 @@ use Rattle.lists.specs.Promise.{numberOf}
 use Rattle.texts.specs.Faults.{Unended, Outside, place, Clean, InLine, AtEnd}
 use Rattle.texts.specs.Listed.{At, edgeLines}
 use Rattle.texts.specs.ListFaults.{PBefore, Has, listOrder, Lacks}
-use Rattle.texts.proofs.Refusals.{if-cases, in-order}
+use Rattle.texts.proofs.ListFaultLaws.{Found, has-fault, clean-of}
 use Rattle.texts.proofs.ListLines.{Rest, rest-next, unended-none}
-
-abbrev pub Found : ℕ → Text → ℕ → Fault → ℕ → Type 0
-Found most t room f k = InLine t (Has most t room) listOrder (numberOf f) k ⊎ AtEnd t (Has most t room) (Lacks t) (numberOf f) k
-
--- ---- numbers that are faults
-
--- the fault that a number says, where a line has it
-pub has-fault : (most : ℕ) (t : Text) (room k f : ℕ) → Has most t room k f → (g : Fault) × (f ≡ numberOf g)
-has-fault most t room k f h =
-    if-cases (eqb f 10) h (λ e _. (Line, eqb-true f 10 e))
-    (λ _ h. if-cases (eqb f 11) h (λ e _. (Headless, eqb-true f 11 e))
-    (λ _ h. if-cases (eqb f 12) h (λ e _. (Second, eqb-true f 12 e))
-    (λ _ h. if-cases (eqb f 13) h (λ e _. (Size, eqb-true f 13 e))
-    (λ _ h. if-cases (eqb f 17) h (λ e _. (Room, eqb-true f 17 e))
-    (λ _ h. if-cases (eqb f 14) h (λ e _. (Vertex, eqb-true f 14 e))
-    (λ _ h. if-cases (eqb f 15) h (λ e _. (Loop, eqb-true f 15 e)) (λ _ h. absurd h)))))))
-
-pub has-known : (most : ℕ) (t : Text) (room k f : ℕ) → Has most t room k f → In f listOrder
-has-known most t room k f h = let w = has-fault most t room k f h in subst (λ (m : ℕ). In m listOrder) (sym (w .1)) (go (w .0) (subst (Has most t room k) (w .1) h))
-  where
-    go : (g : Fault) → Has most t room k (numberOf g) → In (numberOf g) listOrder
-    go Line x = in-order listOrder 10 tt
-    go Headless x = in-order listOrder 11 tt
-    go Second x = in-order listOrder 12 tt
-    go Size x = in-order listOrder 13 tt
-    go Room x = in-order listOrder 17 tt
-    go Vertex x = in-order listOrder 14 tt
-    go Loop x = in-order listOrder 15 tt
-    go Count x = absurd x
-    go Long x = absurd x
-
-pub clean-of : (most : ℕ) (t : Text) (room k : ℕ) → ((g : Fault) → ¬ Has most t room k (numberOf g)) → Clean (Has most t room) k
-clean-of most t room k c f h = let w = has-fault most t room k f h in c (w .0) (subst (Has most t room k) (w .1) h)
 
 -- ---- what is known
 
@@ -91,7 +57,8 @@ module _ (most : ℕ) (t0 : Text) (room i : ℕ) (h : Head) (l : List ℕ) (t : 
   before-is : h .seen ≡ true → (n : ℕ) → PBefore t0 (i + 1) n → n ≡ h .n
   before-is e n b = told .seen e .3 (b .0) n (b .1) (omega (arith, b .2)) (b .3) .0
 
-  stop : (f : Fault) → Has most t0 room (i + 1) (numberOf f) → ((g : Fault) → place listOrder (numberOf g) < place listOrder (numberOf f) → ¬ Has most t0 room (i + 1) (numberOf g)) → Found most t0 room f (i + 1)
+  stop : (f : Fault) → Has most t0 room (i + 1) (numberOf f)
+      → ((g : Fault) → place listOrder (numberOf g) < place listOrder (numberOf f) → ¬ Has most t0 room (i + 1) (numberOf g)) → Found most t0 room f (i + 1)
   stop f a b = inl (record { within = here .0; fault = a; first = λ j p. told .clean j (omega arith); lowest = low })
     where
       low : (g : ℕ) → place listOrder g < place listOrder (numberOf f) → ¬ Has most t0 room (i + 1) g
@@ -240,7 +207,8 @@ module _ (most : ℕ) (t0 : Text) (room i : ℕ) (h : Head) (l : List ℕ) (t : 
     in-list q a b x =
         let w = e-is (x .0) (x .1) (x .3) in
         let z = before-is q (x .2) (x .4) in
-        ⊎-elim (λ o. ⊎-elim (λ y. omega (arith, w .0, a .0)) (λ y. omega (arith, w .0, a .1)) o) (λ o. ⊎-elim (λ y. omega (arith, w .1, b .0)) (λ y. omega (arith, w .1, b .1)) o) (x .5)
+        ⊎-elim (λ o. ⊎-elim (λ y. omega (arith, w .0, a .0)) (λ y. omega (arith, w .0, a .1)) o)
+        (λ o. ⊎-elim (λ y. omega (arith, w .1, b .0)) (λ y. omega (arith, w .1, b .1)) o) (x .5)
 
     pub loop : h .seen ≡ true → (1 ≤ u) × (u ≤ h .n) → (1 ≤ v) × (v ≤ h .n) → u ≡ v → Found most t0 room Loop (i + 1)
     loop q a b s = stop Loop (u, subst (λ (y : ℕ). At t0 (i + 1) (E u y)) (sym s) e-here) low

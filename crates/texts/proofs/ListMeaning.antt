@@ -21,21 +21,28 @@ use Rattle.lists.specs.declared.Reading.the-variants.{Read, Refused}
 use Rattle.lists.specs.Promise.{numberOf}
 use Rattle.lists.specs.Read.{readUpTo}
 use Rattle.texts.specs.Faults.{Faultless}
-use Rattle.texts.specs.Listed.{At, EdgeLine, edgeLines, ListOf}
+use Rattle.texts.specs.Listed.{At, ListOf}
 use Rattle.texts.specs.ListFaults.{Has, listOrder, Lacks, ListRefused}
 use Rattle.texts.proofs.Refusals.{if-cases, refusal-one, refusal-none}
 use Rattle.texts.proofs.ListLines.{whole-closed}
 use Rattle.texts.proofs.ListAccepted.{list-accepted}
-use Rattle.texts.proofs.ListLineFaults.{has-fault, has-known}
+use Rattle.texts.proofs.ListFaultLaws.{has-fault, has-known}
 use Rattle.texts.proofs.ListRefused.{list-refused}
 
 -- ---- one refusal
 
 lacks-one : (t : Text) (f g : ℕ) → Lacks t f → Lacks t g → f ≡ g
-lacks-one t f g a b = ⊎-elim (λ x. ⊎-elim (λ y. x .0 ∙ sym (y .0)) (λ y. let w = y .1 in absurd (x .1 (w .0) (w .1) (w .2) (w .3))) (cases g b)) (λ x. ⊎-elim (λ y. let w = x .1 in absurd (y .1 (w .0) (w .1) (w .2) (w .3))) (λ y. x .0 ∙ sym (y .0)) (cases g b)) (cases f a)
+lacks-one t f g a b = go (cases f a) (cases g b)
   where
-    cases : (f : ℕ) → Lacks t f → ((f ≡ 11) × ((k n m : ℕ) → ¬ At t k (P n m))) ⊎ ((f ≡ 16) × ((k n m : ℕ) × At t k (P n m) × ¬ (edgeLines t ≡ m)))
-    cases f h = if-cases (eqb f 11) h (λ e x. inl (eqb-true f 11 e, x)) (λ _ h. if-cases (eqb f 16) h (λ e x. inr (eqb-true f 16 e, x)) (λ _ h. absurd h))
+    cases : (f : ℕ) → Lacks t f → ((f ≡ 11) × ((k n m : ℕ) → ¬ At t k (P n m))) ⊎ ((f ≡ 16) × ((k n m : ℕ) × At t k (P n m)))
+    cases f h = if-cases (eqb f 11) h (λ e x. inl (eqb-true f 11 e, x)) (λ _ h. if-cases (eqb f 16) h (λ e x. inr (eqb-true f 16 e, (x .0, x .1, x .2, x .3))) (λ _ h. absurd h))
+
+    go : ((f ≡ 11) × ((k n m : ℕ) → ¬ At t k (P n m))) ⊎ ((f ≡ 16) × ((k n m : ℕ) × At t k (P n m)))
+        → ((g ≡ 11) × ((k n m : ℕ) → ¬ At t k (P n m))) ⊎ ((g ≡ 16) × ((k n m : ℕ) × At t k (P n m))) → f ≡ g
+    go (inl x) (inl y) = x .0 ∙ sym (y .0)
+    go (inl x) (inr y) = let w = y .1 in absurd (x .1 (w .0) (w .1) (w .2) (w .3))
+    go (inr x) (inl y) = let w = x .1 in absurd (y .1 (w .0) (w .1) (w .2) (w .3))
+    go (inr x) (inr y) = x .0 ∙ sym (y .0)
 
 module _ (most longest : ℕ) (s : List ℕ) where
   pub list-refusal-one : (room f g k j : ℕ) → ListRefused most longest s room f k → ListRefused most longest s room g j → (f ≡ g) × (k ≡ j)

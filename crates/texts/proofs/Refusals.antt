@@ -6,15 +6,16 @@ use mathlib.Core.List.{List, [], _∷_}
 use mathlib.Core.Bool.{Bool, true, false, cond}
 use native.Mathlib.Omega.{arith}
 use native.Mathlib.Decide.{decLt}
-use borrow.Author.Tests.{eqb-true, eqb-false}
-use lib.Dec.{T, eqb, eqb→eq}
+use borrow.Author.Tests.{leb-false, eqb-true, eqb-false}
+use lib.Dec.{T, leb, eqb, eqb→eq}
 use lib.ListN.{length}
 use Rattle.sets.specs.Lists.{In, some?}
 use Rattle.sets.proofs.TestLaws.{or-cases}
 use Rattle.refusals.specs.Table.{numberOf, If}
 use Rattle.refusals.specs.declared.Refusal.the-variants.{Long}
 use Rattle.lines.specs.Text.{Text, linesOf, lineCount}
-use Rattle.texts.specs.Faults.{place, Clean, InLine, AtEnd, Refusal, Faultless}
+use Rattle.lists.specs.Read.{inside}
+use Rattle.texts.specs.Faults.{Outside, place, Clean, InLine, AtEnd, Refusal, Faultless}
 
 -- ---- selected by number
 
@@ -106,3 +107,12 @@ module _ (longest : ℕ) (s : List ℕ) (has : ℕ → ℕ → Type 0) (order : 
   refusal-none x f k h =
       ⊎-elim (λ y. omega (arith, y .2, x .short))
       (λ y. ⊎-elim (λ a. x .clean k (a .within .1) f (a .fault)) (λ a. x .full f (a .fault)) (y .1)) (refusal-cases f k h)
+
+-- ---- entries
+
+pub outside-is : (n u : ℕ) → inside n u ≡ false → Outside n u
+outside-is n u e = pick (leb 1 u) refl e
+  where
+    pick : (b : Bool) → leb 1 u ≡ b → cond b (leb u n) false ≡ false → Outside n u
+    pick true d e = inr (leb-false u n e)
+    pick false d e = inl (leb-false 1 u d)

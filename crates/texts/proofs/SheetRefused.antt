@@ -33,7 +33,7 @@ use Rattle.sheets.specs.declared.Step.the-variants.{Stop, Count, Place}
 use Rattle.texts.specs.Faults.{Unended, Outside, Clean, InLine, AtEnd, Faultless}
 use Rattle.texts.specs.SheetFaults.{Kind, groupsLine, kindOf, Group, Saying, nothing, says, laid, before, OverPlace, StandsIn, HasAt, Has, sheetOrder, LacksAt, Lacks, SheetRefused}
 use Rattle.texts.specs.SheetFaults as words
-use Rattle.texts.proofs.Refusals.{if-cases, refusal-make}
+use Rattle.texts.proofs.Refusals.{if-cases, refusal-make, outside-is}
 use Rattle.texts.proofs.ListLines.{unended-none}
 use Rattle.texts.proofs.SheetKinds.{groups-kind, kind-groups, laid-one}
 use Rattle.texts.proofs.SheetSteps.{opening, begins}
@@ -48,13 +48,6 @@ not-all (suc n) p e = go (p n) refl (all n p) refl e (not-all n p)
     go false x b y e i = (n, omega arith, x)
     go true x false y e i = let r = i y in (r .0, omega (arith, r .1), r .2)
     go true x true y e i = absurd (subst T e tt)
-
-outside-is : (n u : ℕ) → inside n u ≡ false → Outside n u
-outside-is n u e = pick (leb 1 u) refl e
-  where
-    pick : (b : Bool) → leb 1 u ≡ b → cond b (leb u n) false ≡ false → Outside n u
-    pick true d e = inr (leb-false u n e)
-    pick false d e = inl (leb-false 1 u d)
 
 module _ (most n : ℕ) (clash : ℕ → ℕ → Bool) where
   record Clear (t : Text) : Type 0 where
