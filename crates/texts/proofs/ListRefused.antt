@@ -21,7 +21,7 @@ use Rattle.lists.specs.declared.Shape.the-variants.{Comment, P, E, Bad}
 use Rattle.lists.specs.declared.Fault.{Fault}
 use Rattle.lists.specs.declared.Fault.the-variants.{Line, Headless, Second, Size, Room, Vertex, Loop, Count, Long}
 use Rattle.lists.specs.declared.Head.{Head}
-use Rattle.lists.specs.declared.Found.{Found as Read-found}
+use Rattle.lists.specs.declared.Found.{Found as Finding}
 use Rattle.lists.specs.declared.Reading.{Reading}
 use Rattle.lists.specs.declared.Reading.the-variants.{Read, Refused}
 use Rattle.lists.specs.declared.Step.{Step}
@@ -43,7 +43,7 @@ module _ (most : ℕ) (t0 : Text) (room : ℕ) where
 
   end-means : (i : ℕ) (h : Head) (g : List ℕ) → Told most t0 room i h done → Means (readFromUpTo most done room (i + 1) h g .answer)
   end-means i h g told =
-      let F : Read-found → Type 0 = λ x. Means (x .answer) in
+      let F : Finding → Type 0 = λ x. Means (x .answer) in
       cond-cases F (h .seen) _ _
       (λ q. cond-cases F (eqb (h .count) (h .m)) _ _ (λ _. tt)
       (λ e. let s = told .seen q in
@@ -129,7 +129,7 @@ module _ (most longest : ℕ) (s : List ℕ) (room : ℕ) where
 
   pub list-refused : (f : Fault) (k : ℕ) → readUpTo most longest s room .answer ≡ Refused f k → ListRefused most longest s room (numberOf f) k
   list-refused f k a =
-      subst Meant a (cond-cases (λ (x : Read-found). Meant (x .answer)) (leb (length s) longest) _ _
+      subst Meant a (cond-cases (λ (x : Finding). Meant (x .answer)) (leb (length s) longest) _ _
       (λ e. meant (leb-true (length s) longest e) (readFromUpTo most (linesOf s) room 1 start (noRowsUpTo most) .answer)
       (from-means most (linesOf s) room (linesOf s) 0 start (noRowsUpTo most) (told-start most (linesOf s) room)))
       (λ e. (refl, leb-false (length s) longest e)))
