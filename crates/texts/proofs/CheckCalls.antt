@@ -5,11 +5,10 @@ use Prim.Native.Nat.{ℕ, _≤_, _<_}
 use mathlib.Core.Path.{_≡_, refl, sym, ap, subst, _∙_}
 use mathlib.Core.Logic.{_⊎_, inl, inr, ⊎-elim}
 use mathlib.Core.List.{List, _++_}
-use mathlib.Core.Bool.{Bool, true, false, cond}
+use mathlib.Core.Bool.{Bool, cond}
 use native.Mathlib.Omega.{arith}
 use native.Mathlib.Decide.{decLt}
 use borrow.Author.Tests.{le-leb, lt-leb}
-use lib.Dec.{leb}
 use lib.ListN.{length, take, drop}
 use lib.Seq.{take-at, drop-at}
 use Rattle.clashes.specs.Matrix.{matrix}
@@ -35,7 +34,7 @@ use Rattle.texts.proofs.ListAccepted.{list-accepted}
 use Rattle.texts.proofs.ListRefused.{list-refused}
 use Rattle.texts.proofs.ListMeaning.{list-valid, list-taken, list-returned}
 use Rattle.texts.proofs.SheetAccepted.{sheet-accepted}
-use Rattle.texts.proofs.SheetLineFaults.{numberOf}
+use Rattle.texts.proofs.SheetFaultLaws.{numberOf}
 use Rattle.texts.proofs.SheetRefused.{SheetMeans, sheet-means}
 use Rattle.texts.proofs.SheetMeaning.{sheet-taken, sheet-returned}
 
@@ -146,9 +145,9 @@ module _ (most longest : ℕ) (list s old new : List ℕ) where
         let r = sheet-taken n (matrix rows) longest s most (l .few) few (list-valid most longest list n rows l) k c q in (
           answer-is o (w .same) ∙ r .0,
           lent-is o (w .same)
-          ∙ ap (λ (b : Checked). written b (o .entries) (o .colours) old) (r .0)
-          ∙ ap (λ (m : ℕ). take m (o .colours) ++ drop m old) (r .2)
-          ∙ ap (λ (d : List ℕ). d ++ drop n old) (r .1),
+              ∙ ap (λ (b : Checked). written b (o .entries) (o .colours) old) (r .0)
+              ∙ ap (λ (m : ℕ). take m (o .colours) ++ drop m old) (r .2)
+              ∙ ap (λ (d : List ℕ). d ++ drop n old) (r .1),
         )
 
     pub check-unread-so : (f k : ℕ) → ListRefused most longest list most f k → numbersOf a ≡ refusedOf theList f k

@@ -12,7 +12,6 @@ use mathlib.Core.Path.{_≡_}
 use mathlib.Core.Bool.{Bool}
 use mathlib.Core.List.{List, _++_}
 use Prim.Native.Nat.{ℕ, _≤_, _<_}
-use native.Mathlib.Omega.{arith}
 use lib.ListN.{length, take, drop}
 use Rattle.refusals.specs.Table.{numberOf}
 use Rattle.refusals.specs.declared.Refusal.the-variants.{Room}

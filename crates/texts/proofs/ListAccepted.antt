@@ -5,7 +5,7 @@
 -- Assumes nothing.
 use Prim.Native.Nat.{ℕ, zero, suc, _+_, _≤_, _<_}
 use mathlib.Core.Path.{_≡_, refl, sym, ap, subst, fun-ext, _∙_}
-use mathlib.Core.Logic.{_⊎_, inl, inr, ⊎-elim}
+use mathlib.Core.Logic.{_⊎_, ⊎-elim}
 use mathlib.Core.List.{List}
 use mathlib.Core.Bool.{Bool, true, false}
 use native.Mathlib.Decide.{decLt}
@@ -31,7 +31,7 @@ use Rattle.lists.specs.declared.Reading.the-variants.{Read, Refused}
 use Rattle.lists.specs.declared.Found.{Found}
 use Rattle.lines.proofs.Basics.{cond-cases}
 use Rattle.texts.specs.Listed.{At, EdgeLine, edgeLines, Whole, Proper, ListOf}
-use Rattle.texts.proofs.ListLines.{at-first, at-later, at-cases, at-none}
+use Rattle.texts.proofs.ListLines.{at-first, at-later, at-cases}
 use Rattle.texts.proofs.ListBody.{Body, Bodied, edge-later, edge-back, edge-back-p, body}
 
 -- ---- before the p line

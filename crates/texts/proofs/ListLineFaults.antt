@@ -5,25 +5,24 @@
 -- Assumes nothing.
 use Prim.Native.Nat.{ℕ, _+_, _≤_, _<_}
 use mathlib.Core.Path.{_≡_, refl, sym, ap, subst, _∙_}
-use mathlib.Core.Logic.{_⊎_, inl, inr, ⊎-elim}
-use mathlib.Core.List.{List, [], _∷_}
-use mathlib.Core.Bool.{Bool, true, false, cond}
+use mathlib.Core.Logic.{_⊎_, inl, ⊎-elim}
+use mathlib.Core.List.{List}
+use mathlib.Core.Bool.{true, false}
 use native.Mathlib.Decide.{decLt}
 use native.Mathlib.Omega.{arith}
-use borrow.Author.Tests.{eqb-true}
-use lib.Dec.{T, eqb}
-use Rattle.sets.specs.Lists.{bit, In}
-use Rattle.lines.specs.Text.{Text, done, unended, ended, lineCount, Within}
-use Rattle.lists.specs.Shape.{shapeOf, shapeAt, isE}
+use lib.Dec.{T}
+use Rattle.sets.specs.Lists.{bit}
+use Rattle.lines.specs.Text.{Text, ended}
+use Rattle.lists.specs.Shape.{shapeOf, isE}
 use Rattle.lists.specs.declared.Shape.{Shape}
 use Rattle.lists.specs.declared.Shape.the-variants.{Comment, P, E, Bad}
 use Rattle.lists.specs.declared.Fault.{Fault}
 use Rattle.lists.specs.declared.Fault.the-variants.{Line, Headless, Second, Size, Room, Vertex, Loop, Count, Long}
 use Rattle.lists.specs.declared.Head.{Head}
 use Rattle.lists.specs.Promise.{numberOf}
-use Rattle.texts.specs.Faults.{Unended, Outside, place, Clean, InLine, AtEnd}
+use Rattle.texts.specs.Faults.{Unended, Outside, place, Clean}
 use Rattle.texts.specs.Listed.{At, edgeLines}
-use Rattle.texts.specs.ListFaults.{PBefore, Has, listOrder, Lacks}
+use Rattle.texts.specs.ListFaults.{PBefore, Has, listOrder}
 use Rattle.texts.proofs.ListFaultLaws.{Found, has-fault, clean-of}
 use Rattle.texts.proofs.ListLines.{Rest, rest-next, unended-none}
 

@@ -5,14 +5,14 @@
 -- Assumes nothing.
 use Prim.Native.Nat.{ℕ, zero, suc, _+_, _≤_}
 use mathlib.Core.Path.{_≡_, refl, subst}
-use mathlib.Core.Logic.{_⊎_, inl, inr, ⊎-elim}
+use mathlib.Core.Logic.{_⊎_, inl, inr}
 use mathlib.Core.List.{List}
 use native.Mathlib.Omega.{arith}
-use Rattle.lines.specs.Text.{Text, done, unended, ended, lineCount, Within}
-use Rattle.lists.specs.Shape.{shapeOf, shapeAt}
+use Rattle.lines.specs.Text.{Text, done, unended, ended, lineCount}
+use Rattle.lists.specs.Shape.{shapeOf}
 use Rattle.lists.specs.declared.Shape.{Shape}
 use Rattle.texts.specs.Faults.{Unended}
-use Rattle.texts.specs.Listed.{At, EdgeLine, Whole}
+use Rattle.texts.specs.Listed.{At, Whole}
 
 -- ---- a line more at the front
 

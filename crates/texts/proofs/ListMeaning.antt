@@ -1,19 +1,17 @@
 -- The words leave one answer to a clash text: one list or one refusal, and not both. Reading gives just that.
-use Prim.Native.Nat.{ℕ, zero, suc, _+_, _≤_, _<_}
+use Prim.Native.Nat.{ℕ, suc, _≤_}
 use mathlib.Core.Path.{_≡_, refl, sym, ap, subst, _∙_}
 use mathlib.Core.Logic.{_⊎_, inl, inr, ⊎-elim}
 use mathlib.Core.List.{List, [], _∷_}
-use mathlib.Core.Bool.{Bool}
 use native.Mathlib.Omega.{arith}
 use borrow.Author.Tests.{eqb-true}
-use lib.Dec.{T, eqb}
+use lib.Dec.{eqb}
 use lib.ListN.{length, getD, take}
-use Rattle.sets.specs.Set.{has}
 use Rattle.sets.proofs.SetLaws.{same-members}
 use Rattle.sets.proofs.TestLaws.{T-ext}
 use Rattle.clashes.specs.Matrix.{matrix, Valid}
 use Rattle.lines.specs.Text.{Text, linesOf}
-use Rattle.lists.specs.declared.Shape.the-variants.{P, E}
+use Rattle.lists.specs.declared.Shape.the-variants.{P}
 use Rattle.lists.specs.declared.Fault.{Fault}
 use Rattle.lists.specs.declared.Fault.the-variants.{Line, Headless, Second, Size, Room, Vertex, Loop, Count, Long}
 use Rattle.lists.specs.declared.Reading.{Reading}
@@ -105,9 +103,11 @@ module _ (most longest : ℕ) (s : List ℕ) where
 
   pub list-one : (n m : ℕ) (rows cols : List ℕ) → ListOf most longest s n rows → ListOf most longest s m cols → (n ≡ m) × (rows ≡ cols)
   list-one n m rows cols a b =
-      let e = p-says m cols b (a .head) n (a .stated) (a .header) .1 in
-      (e, same rows cols (a .long ∙ e ∙ sym (b .long)) (λ i. same-members (getD rows i 0) (getD cols i 0) (λ j.
-      T-ext (matrix rows i j) (matrix cols i j) (λ x. b .clashes i j .1 (a .clashes i j .0 x)) (λ x. a .clashes i j .1 (b .clashes i j .0 x)))))
+      let e = p-says m cols b (a .head) n (a .stated) (a .header) .1 in (
+        e,
+        same rows cols (a .long ∙ e ∙ sym (b .long)) (λ i. same-members (getD rows i 0) (getD cols i 0) (λ j.
+            T-ext (matrix rows i j) (matrix cols i j) (λ x. b .clashes i j .1 (a .clashes i j .0 x)) (λ x. a .clashes i j .1 (b .clashes i j .0 x)))),
+      )
     where
       same : (k l : List ℕ) → length k ≡ length l → ((i : ℕ) → getD k i 0 ≡ getD l i 0) → k ≡ l
       same [] [] e h = refl

@@ -1,18 +1,16 @@
 -- Reading undone: a number that is read is the number's numeral, and a line the word and the numeral. (Laws of `lines` and `sheets`.)
-use Prim.Native.Nat.{ℕ, zero, suc, _+_, _-_, _*_, _/_, _%_, _≤_, _<_}
+use Prim.Native.Nat.{ℕ, zero, suc, _+_, _-_, _*_, _/_, _%_, _≤_}
 use mathlib.Core.Path.{_≡_, refl, sym, ap, subst, _∙_}
 use mathlib.Core.List.{List, [], _∷_, _++_}
 use mathlib.Core.Bool.{Bool, true, false, cond}
 use native.Mathlib.Omega.{arith}
-use borrow.Author.Tests.{le-leb, lt-leb, leb-true, leb-false, eqb-true, eqb-false}
+use borrow.Author.Tests.{le-leb, lt-leb, leb-true, eqb-true, eqb-false}
 use lib.Dec.{T, leb, eqb}
-use lib.ListN.{length, getD, drop, length-append, List·getD-append}
-use Rattle.lines.specs.Number.{digit, digits, value, proper, numberOf}
+use lib.ListN.{length, getD, drop, length-append}
+use Rattle.lines.specs.Number.{digits, value, proper}
 use Rattle.lines.specs.Words.{starts, whole, aloneOf}
 use Rattle.lines.specs.Numeral.{decimal, numeral}
-use Rattle.lines.specs.declared.Front.{Front}
 use Rattle.lines.specs.declared.Front.the-variants.{Is, Not}
-use Rattle.lines.specs.declared.Alone.{Alone}
 use Rattle.lines.specs.declared.Alone.the-variants.{Only, Other}
 use Rattle.sheets.specs.Check.{behindOf}
 
@@ -87,7 +85,8 @@ decimal-of (suc f) (x ∷ s) l h d g =
         let big : 1 ≤ v = let m = value-least (0 * 10 + (y - 48)) ys in omega (arith, head ys y d b) in
         let c : (v * 10 + (d - 48)) / 10 ≡ v = omega arith in
         let m : 48 + (v * 10 + (d - 48)) % 10 ≡ d = omega arith in
-        ap (decimal (suc f)) e ∙ rw (le-leb 10 (v * 10 + (d - 48)) (omega arith), c, m, r (omega arith) (omega (arith, length-append (y ∷ ys) (d ∷ []))) (q .0) (led-front (y ∷ ys) d b))
+        let i = r (omega arith) (omega (arith, length-append (y ∷ ys) (d ∷ []))) (q .0) (led-front (y ∷ ys) d b) in
+        ap (decimal (suc f)) e ∙ rw (le-leb 10 (v * 10 + (d - 48)) (omega arith), c, m, i)
       where
         head : (ys : List ℕ) (y d : ℕ) → Led (y ∷ (ys ++ d ∷ [])) → 49 ≤ y
         head [] y d h = h
@@ -99,7 +98,9 @@ above l h = omega arith
 proper-led : (s : List ℕ) → proper (length s) (getD s 0 0) ≡ true → Digits s → (1 ≤ length s) × (length s ≤ 7) × Led s
 proper-led [] e d = absurd (subst T (sym e) tt)
 proper-led (x ∷ []) e d = (omega arith, omega arith, tt)
-proper-led (x ∷ (y ∷ s)) e d = go (leb 1 (suc (suc (length s)))) (leb (suc (suc (length s))) 7) refl (eqb x 48) refl (leb (suc (suc (length s))) 1) (lt-leb (suc (suc (length s))) 1 (omega arith)) e
+proper-led (x ∷ (y ∷ s)) e d =
+    let k = suc (suc (length s)) in
+    go (leb 1 k) (leb k 7) refl (eqb x 48) refl (leb k 1) (lt-leb k 1 (omega arith)) e
   where
     go : (z a : Bool) → leb (suc (suc (length s))) 7 ≡ a → (b : Bool) → eqb x 48 ≡ b → (c : Bool) → c ≡ false → cond z (cond a (cond b c true) false) false ≡ true
         → (1 ≤ suc (suc (length s))) × (suc (suc (length s)) ≤ 7) × (49 ≤ x)

@@ -1,5 +1,5 @@
 -- The words of a refusal leave one number and one line, and leave none where the text is without fault. Assumes nothing.
-use Prim.Native.Nat.{ℕ, zero, suc, _+_, _≤_, _<_}
+use Prim.Native.Nat.{ℕ, zero, suc, _≤_, _<_}
 use mathlib.Core.Path.{_≡_, refl, sym, ap, subst, _∙_}
 use mathlib.Core.Logic.{_⊎_, inl, inr, ⊎-elim}
 use mathlib.Core.List.{List, [], _∷_}
@@ -13,9 +13,9 @@ use Rattle.sets.specs.Lists.{In, some?}
 use Rattle.sets.proofs.TestLaws.{or-cases}
 use Rattle.refusals.specs.Table.{numberOf, If}
 use Rattle.refusals.specs.declared.Refusal.the-variants.{Long}
-use Rattle.lines.specs.Text.{Text, linesOf, lineCount}
+use Rattle.lines.specs.Text.{linesOf}
 use Rattle.lists.specs.Read.{inside}
-use Rattle.texts.specs.Faults.{Outside, place, Clean, InLine, AtEnd, Refusal, Faultless}
+use Rattle.texts.specs.Faults.{Outside, place, InLine, AtEnd, Refusal, Faultless}
 
 -- ---- selected by number
 

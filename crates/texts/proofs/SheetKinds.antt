@@ -1,10 +1,9 @@
 -- What a sheet's line says is one thing, and lines leave one saying.
 use Prim.Native.Nat.{ℕ}
-use mathlib.Core.Path.{_≡_, refl, sym, ap, subst, _∙_}
-use mathlib.Core.List.{List, [], _∷_, _++_}
+use mathlib.Core.Path.{_≡_, refl, sym, ap, _∙_}
+use mathlib.Core.List.{List, [], _∷_}
 use native.Mathlib.Omega.{arith}
 use Rattle.lines.specs.Words.{aloneOf}
-use Rattle.lines.specs.Numeral.{numeral}
 use Rattle.lines.specs.declared.Alone.{Alone}
 use Rattle.lines.specs.declared.Alone.the-variants.{Only, Other}
 use Rattle.sheets.specs.Check.{groupsWord, sizeWord, behindOf}
@@ -40,7 +39,8 @@ module _ (l : List ℕ) where
   pub member-kind : (u : ℕ) → aloneOf l ≡ Only u → kindOf l ≡ memberLine u
   member-kind u e = go (behindOf groupsWord l) refl (behindOf sizeWord l) refl
     where
-      go : (a : Alone) → behindOf groupsWord l ≡ a → (b : Alone) → behindOf sizeWord l ≡ b → found a groupsLine (found b sizeLine (found (aloneOf l) memberLine noLine)) ≡ memberLine u
+      go : (a : Alone) → behindOf groupsWord l ≡ a → (b : Alone) → behindOf sizeWord l ≡ b
+          → found a groupsLine (found b sizeLine (found (aloneOf l) memberLine noLine)) ≡ memberLine u
       go (Only k) f b g = absurd (differ u (aloneOf l) e (groups-alone l k f))
       go Other f (Only s) g = absurd (differ u (aloneOf l) e (size-alone l s g))
       go Other f Other g = ap (λ (a : Alone). found a memberLine noLine) e

@@ -1,76 +1,32 @@
 -- A line of a sheet, by what those before it say: the first fault that it has, or that it has none.
 --
---   After t0 i t : t are the lines of t0 after the first i
 --   Held n clash t0 i k gs p mates earlier t : the first i lines of t0, of which t are the rest, say k and gs and have no fault, and what is known is that
---   Found n clash t f k : the lines t are refused with the fault f at line k, or at the end
 --
 -- Assumes nothing.
-use Prim.Native.Nat.{ℕ, zero, suc, _+_, _-_, _≤_, _<_}
+use Prim.Native.Nat.{ℕ, suc, _+_, _-_, _≤_, _<_}
 use mathlib.Core.Path.{_≡_, refl, sym, ap, subst, _∙_}
 use mathlib.Core.Logic.{_⊎_, inl, inr, ⊎-elim}
 use mathlib.Core.List.{List, [], _∷_}
 use mathlib.Core.Bool.{Bool, true, false, cond, _&&_, _||_}
-use native.Mathlib.Decide.{decLt}
 use native.Mathlib.Omega.{arith}
-use borrow.Author.Tests.{eqb-true}
 use lib.Dec.{T, eqb, eqb→eq}
 use lib.ListN.{length}
 use Rattle.sets.specs.Lists.{In, any}
 use Rattle.sets.proofs.TestLaws.{and-l, and-r, and-t, or-l, or-r, or-cases, eqb-of, any-get, any-make}
-use Rattle.lines.specs.Text.{Text, done, unended, ended, lineNo, lineCount, Within}
+use Rattle.lines.specs.Text.{Text, ended, lineNo, Within}
 use Rattle.lines.specs.Words.{aloneOf}
-use Rattle.lines.specs.declared.Alone.{Alone}
 use Rattle.lines.specs.declared.Alone.the-variants.{Only, Other}
 use Rattle.sheets.specs.Check.{sizeWord, behindOf, placed, none as nobody}
-use Rattle.refusals.specs.Table as table
-use Rattle.sheets.specs.Promise.{refusalOf}
 use Rattle.sheets.specs.declared.SheetFault.{SheetFault}
 use Rattle.sheets.specs.declared.SheetFault.the-variants.{Long, Line, Member, Order, Twice, Clash, Ends, Missing, Extra}
 use Rattle.sheets.specs.declared.Progress.{Progress}
-use Rattle.texts.specs.Faults.{Unended, Outside, place, Clean, InLine, AtEnd}
-use Rattle.texts.specs.SheetFaults.{Kind, groupsLine, sizeLine, memberLine, kindOf, kindAt, Group, Saying, nothing, says, groupsOf, laid, before, needOf, GroupsPlace, MemberPlace, SizePlace, OverPlace, earliest, firstIn, firstOf, floorIn, floorOf, nowOf, earlierOf, StandsIn, ClashIn, Misshaped, MemberAt, HasAt, Has, sheetOrder, LacksAt, Lacks}
-use Rattle.texts.proofs.Refusals.{if-cases, in-order}
+use Rattle.texts.specs.Faults.{Unended, Outside, place, Clean}
+use Rattle.texts.specs.SheetFaults.{Kind, sizeLine, memberLine, kindOf, kindAt, Group, says, laid, before, needOf, MemberPlace, OverPlace}
+use Rattle.texts.specs.SheetFaults.{earliest, firstIn, firstOf, floorOf, nowOf, earlierOf, StandsIn, ClashIn, MemberAt, HasAt, Has, sheetOrder}
 use Rattle.texts.proofs.ListLines.{unended-none}
-use Rattle.texts.proofs.SheetKinds.{size-kind, member-kind, kind-size, kind-member, laid-one}
+use Rattle.texts.proofs.SheetKinds.{size-kind, member-kind, kind-size, kind-member}
 use Rattle.texts.proofs.SheetSteps.{opening}
-
--- the number of a fault of a sheet
-abbrev pub numberOf : SheetFault → ℕ
-numberOf f = table.numberOf (refusalOf f)
-
--- ---- the rest of a text
-
-pub record After (t0 : Text) (i : ℕ) (t : Text) : Type 0 where
-  pub line : (k : ℕ) → lineNo t0 (i + k) ≡ lineNo t k
-  pub cut-forth : (k : ℕ) → Unended t (suc k) → Unended t0 (suc (i + k))
-  pub cut-back : (k : ℕ) → Unended t0 (suc (i + k)) → Unended t (suc k)
-  pub many : lineCount t0 ≡ i + lineCount t
-
-pub after-whole : (t : Text) → After t 0 t
-after-whole t = record {
-  line = λ k. let e : 0 + k ≡ k = omega arith in ap (lineNo t) e;
-  cut-forth = λ k x. let e : suc k ≡ suc (0 + k) = omega arith in subst (Unended t) e x;
-  cut-back = λ k x. let e : suc (0 + k) ≡ suc k = omega arith in subst (Unended t) e x;
-  many = omega arith;
-}
-
-pub after-next : (t0 : Text) (i : ℕ) (l : List ℕ) (t : Text) → After t0 i (ended l t) → After t0 (suc i) t
-after-next t0 i l t r = record {
-  line = λ k. let e : suc i + k ≡ i + suc k = omega arith in ap (lineNo t0) e ∙ r .line (suc k);
-  cut-forth = λ k x. let e : suc (i + suc k) ≡ suc (suc i + k) = omega arith in subst (Unended t0) e (r .cut-forth (suc k) x);
-  cut-back = λ k x. let e : suc (suc i + k) ≡ suc (i + suc k) = omega arith in r .cut-back (suc k) (subst (Unended t0) e x);
-  many = omega (arith, r .many);
-}
-
--- ---- members
-
-pub stands-split : (gs : List Group) (u : ℕ) → StandsIn gs u → In u (nowOf gs) ⊎ StandsIn (earlierOf gs) u
-stands-split [] u h = absurd h
-stands-split (g ∷ gs) u h = h
-
-pub split-stands : (gs : List Group) (u : ℕ) → In u (nowOf gs) ⊎ StandsIn (earlierOf gs) u → StandsIn gs u
-split-stands [] u h = ⊎-elim (λ x. absurd x) (λ x. absurd x) h
-split-stands (g ∷ gs) u h = h
+use Rattle.texts.proofs.SheetFaultLaws.{numberOf, After, after-next, stands-split, split-stands, Found, line-clean, line-found, clean-more}
 
 abbrev freshIn : List ℕ → Bool
 freshIn [] = true
@@ -81,68 +37,7 @@ abbrev pub freshOf : List Group → Bool
 freshOf [] = false
 freshOf (g ∷ gs) = freshIn (g .members)
 
--- ---- what is known
-
 module _ (n : ℕ) (clash : ℕ → ℕ → Bool) where
-  abbrev pub Found : Text → SheetFault → ℕ → Type 0
-  Found t f k = InLine t (Has n clash t) sheetOrder (numberOf f) k ⊎ AtEnd t (Has n clash t) (Lacks n t) (numberOf f) k
-
-  -- the fault that a number says, where a line has it
-  pub at-fault : (t : Text) (k : ℕ) (x : Saying) (f : ℕ) → HasAt n clash t k x f → (g : SheetFault) × (f ≡ numberOf g)
-  at-fault t k x f h =
-      if-cases (eqb f 30) h (λ e _. (Line, eqb-true f 30 e))
-      (λ _ h. if-cases (eqb f 31) h (λ e _. (Member, eqb-true f 31 e))
-      (λ _ h. if-cases (eqb f 32) h (λ e _. (Order, eqb-true f 32 e))
-      (λ _ h. if-cases (eqb f 33) h (λ e _. (Twice, eqb-true f 33 e))
-      (λ _ h. if-cases (eqb f 34) h (λ e _. (Clash, eqb-true f 34 e))
-      (λ _ h. if-cases (eqb f 37) h (λ e _. (Extra, eqb-true f 37 e)) (λ _ h. absurd h))))))
-
-  at-known : (t : Text) (k : ℕ) (x : Saying) (f : ℕ) → HasAt n clash t k x f → In f sheetOrder
-  at-known t k x f h = let w = at-fault t k x f h in subst (λ (m : ℕ). In m sheetOrder) (sym (w .1)) (go (w .0) (subst (HasAt n clash t k x) (w .1) h))
-    where
-      go : (g : SheetFault) → HasAt n clash t k x (numberOf g) → In (numberOf g) sheetOrder
-      go Line x = in-order sheetOrder 30 tt
-      go Member x = in-order sheetOrder 31 tt
-      go Order x = in-order sheetOrder 32 tt
-      go Twice x = in-order sheetOrder 33 tt
-      go Clash x = in-order sheetOrder 34 tt
-      go Extra x = in-order sheetOrder 37 tt
-      go Ends x = absurd x
-      go Missing x = absurd x
-      go Long x = absurd x
-
-  pub has-known : (t : Text) (k f : ℕ) → Has n clash t k f → In f sheetOrder
-  has-known t zero f h = absurd h
-  has-known t (suc i) f h = at-known t (suc i) (h .0) f (h .2)
-
-  -- the lines before a line say one thing
-  module _ (t : Text) (i : ℕ) (x : Saying) (e : before t i ≡ laid x) where
-    has-at : (f : ℕ) → Has n clash t (suc i) f → (g : SheetFault) × (f ≡ numberOf g) × HasAt n clash t (suc i) x (numberOf g)
-    has-at f h =
-        let y = laid-one (h .0) x (sym (h .1) ∙ e) in
-        let a = subst (λ (z : Saying). HasAt n clash t (suc i) z f) y (h .2) in
-        let w = at-fault t (suc i) x f a in
-        (w .0, w .1, subst (HasAt n clash t (suc i) x) (w .1) a)
-
-    pub line-clean : ((g : SheetFault) → ¬ HasAt n clash t (suc i) x (numberOf g)) → Clean (Has n clash t) (suc i)
-    line-clean c f h = let w = has-at f h in c (w .0) (w .2)
-
-    pub line-found : (f : SheetFault) → Within t (suc i) → ((j : ℕ) → j ≤ i → Clean (Has n clash t) j) → HasAt n clash t (suc i) x (numberOf f)
-        → ((g : SheetFault) → place sheetOrder (numberOf g) < place sheetOrder (numberOf f) → ¬ HasAt n clash t (suc i) x (numberOf g)) → Found t f (suc i)
-    line-found f w c a low = inl (record {
-      within = w;
-      fault = (x, e, a);
-      first = λ j b. c j (omega arith);
-      lowest = λ g b h. let v = has-at g h in low (v .0) (subst (λ (m : ℕ). place sheetOrder m < place sheetOrder (numberOf f)) (v .1) b) (v .2);
-    })
-
-  pub clean-more : (t : Text) (i : ℕ) → ((j : ℕ) → j ≤ i → Clean (Has n clash t) j) → Clean (Has n clash t) (suc i) → (j : ℕ) → j ≤ suc i → Clean (Has n clash t) j
-  clean-more t i c d j b = go (decLt i j)
-    where
-      go : Dec (i < j) → Clean (Has n clash t) j
-      go (yes a) = let z : suc i ≡ j = omega arith in subst (Clean (Has n clash t)) z d
-      go (no a) = c j (omega arith)
-
   pub record Held (t0 : Text) (i k : ℕ) (gs : List Group) (p : Progress) (mates earlier : ℕ → Bool) (t : Text) : Type 0 where
     pub rest : After t0 i t
     pub clean : (j : ℕ) → j ≤ i → Clean (Has n clash t0) j
@@ -162,8 +57,8 @@ module _ (n : ℕ) (clash : ℕ → ℕ → Bool) where
   -- ---- after the last group, ended or not
 
   module _ (t0 : Text) (i k : ℕ) (gs : List Group) (e : before t0 i ≡ laid (says k gs)) (w : Within t0 (suc i)) (c : (j : ℕ) → j ≤ i → Clean (Has n clash t0) j) where
-    pub extra : OverPlace (says k gs) → Found t0 Extra (suc i)
-    extra o = line-found t0 i (says k gs) e Extra w c o low
+    pub extra : OverPlace (says k gs) → Found n clash t0 Extra (suc i)
+    extra o = line-found n clash t0 i (says k gs) e Extra w c o low
       where
         low : (g : SheetFault) → place sheetOrder (numberOf g) < place sheetOrder (numberOf Extra) → ¬ HasAt n clash t0 (suc i) (says k gs) (numberOf g)
         low Line c x = ⊎-elim (λ y. ⊎-elim (λ z. z .0) (λ y. ⊎-elim (λ z. omega (arith, z .0 .1, o .1)) (λ z. omega (arith, z .0, o .0)) y) y) (λ y. y .1 o) x
@@ -176,8 +71,8 @@ module _ (n : ℕ) (clash : ℕ → ℕ → Bool) where
         low Missing c x = x
         low Long c x = x
 
-    pub misshaped : HasAt n clash t0 (suc i) (says k gs) (numberOf Line) → Found t0 Line (suc i)
-    misshaped a = line-found t0 i (says k gs) e Line w c a (λ g c x. omega arith)
+    pub misshaped : HasAt n clash t0 (suc i) (says k gs) (numberOf Line) → Found n clash t0 Line (suc i)
+    misshaped a = line-found n clash t0 i (says k gs) e Line w c a (λ g c x. omega arith)
 
   -- ---- a line that is ended
 
@@ -192,12 +87,12 @@ module _ (n : ℕ) (clash : ℕ → ℕ → Bool) where
     closed u = let e : suc i ≡ suc (i + 0) = omega arith in unended-none t (h .rest .cut-back 0 (subst (Unended t0) e u))
 
     refuse : (f : SheetFault) → HasAt n clash t0 (suc i) (says k gs) (numberOf f)
-        → ((g : SheetFault) → place sheetOrder (numberOf g) < place sheetOrder (numberOf f) → ¬ HasAt n clash t0 (suc i) (says k gs) (numberOf g)) → Found t0 f (suc i)
-    refuse f a low = line-found t0 i (says k gs) (h .lines) f in-text (h .clean) a low
+        → ((g : SheetFault) → place sheetOrder (numberOf g) < place sheetOrder (numberOf f) → ¬ HasAt n clash t0 (suc i) (says k gs) (numberOf g)) → Found n clash t0 f (suc i)
+    refuse f a low = line-found n clash t0 i (says k gs) (h .lines) f in-text (h .clean) a low
 
     -- ---- at the place of a size
 
-    pub no-size : p .need < 1 → 1 ≤ p .left → ((s : ℕ) → 1 ≤ s → ¬ (behindOf sizeWord l ≡ Only s)) → Found t0 Line (suc i)
+    pub no-size : p .need < 1 → 1 ≤ p .left → ((s : ℕ) → 1 ≤ s → ¬ (behindOf sizeWord l ≡ Only s)) → Found n clash t0 Line (suc i)
     no-size a b e =
         misshaped t0 i k gs (h .lines) in-text (h .clean)
         (inl (inr (inl ((omega (arith, h .need), omega (arith, h .left)), λ s c q. e s c (kind-size l s (sym kind-is ∙ q))))))
@@ -206,7 +101,7 @@ module _ (n : ℕ) (clash : ℕ → ℕ → Bool) where
         → Held t0 (suc i) k (record { size = s; members = [] } ∷ gs) (opening p s) nobody (λ j. earlier j || mates j) t
     size-held a b s c e = record {
       rest = after-next t0 i l t (h .rest);
-      clean = clean-more t0 i (h .clean) (line-clean t0 i (says k gs) (h .lines) clean);
+      clean = clean-more n clash t0 i (h .clean) (line-clean n clash t0 i (says k gs) (h .lines) clean);
       lines = ap (λ (x : Kind). x ∷ before t0 i) (kind-is ∙ size-kind l s e) ∙ ap (λ (x : List Kind). sizeLine s ∷ x) (h .lines);
       begun = refl;
       left = omega (arith, h .left);
@@ -241,7 +136,7 @@ module _ (n : ℕ) (clash : ℕ → ℕ → Bool) where
       here : MemberPlace (says k gs)
       here = subst (λ (x : ℕ). 1 ≤ x) (h .need) a
 
-      pub no-member : aloneOf l ≡ Other → Found t0 Line (suc i)
+      pub no-member : aloneOf l ≡ Other → Found n clash t0 Line (suc i)
       no-member e =
           misshaped t0 i k gs (h .lines) in-text (h .clean)
           (inl (inr (inr (here, λ u q. let r = kind-member l u (sym kind-is ∙ q) in let z : _≡_ {A = ℕ} 0 1 = cc in omega arith))))
@@ -274,7 +169,7 @@ module _ (n : ℕ) (clash : ℕ → ℕ → Bool) where
             subst T c (any-make n (λ j. mates j && clash (u - 1) j) (v - 1) (omega (arith, w .0, w .1))
             (and-t (mates (v - 1)) (clash (u - 1) (v - 1)) (h .in-mates (v - 1) (subst (λ (y : ℕ). In y (nowOf gs)) (sym z) (o .1))) (o .2)))
 
-        pub outside : Outside n u → Found t0 Member (suc i)
+        pub outside : Outside n u → Found n clash t0 Member (suc i)
         outside o = refuse Member (u, stands, o) low
           where
             low : (g : SheetFault) → place sheetOrder (numberOf g) < place sheetOrder (numberOf Member) → ¬ HasAt n clash t0 (suc i) (says k gs) (numberOf g)
@@ -289,7 +184,7 @@ module _ (n : ℕ) (clash : ℕ → ℕ → Bool) where
             low Long c x = x
 
         module _ (b : (1 ≤ u) × (u ≤ n)) where
-          pub unordered : u ≤ p .floor → Found t0 Order (suc i)
+          pub unordered : u ≤ p .floor → Found n clash t0 Order (suc i)
           unordered d = refuse Order (u, stands, omega (arith, h .floor)) low
             where
               low : (g : SheetFault) → place sheetOrder (numberOf g) < place sheetOrder (numberOf Order) → ¬ HasAt n clash t0 (suc i) (says k gs) (numberOf g)
@@ -304,7 +199,7 @@ module _ (n : ℕ) (clash : ℕ → ℕ → Bool) where
               low Long c x = x
 
           module _ (d : p .floor < u) where
-            pub twice : earlier (u - 1) ≡ true → Found t0 Twice (suc i)
+            pub twice : earlier (u - 1) ≡ true → Found n clash t0 Twice (suc i)
             twice q = refuse Twice (u, stands, subst (StandsIn (earlierOf gs)) (back (b .0)) (h .earlier-in (u - 1) (subst T (sym q) tt))) low
               where
                 low : (g : SheetFault) → place sheetOrder (numberOf g) < place sheetOrder (numberOf Twice) → ¬ HasAt n clash t0 (suc i) (says k gs) (numberOf g)
@@ -322,14 +217,20 @@ module _ (n : ℕ) (clash : ℕ → ℕ → Bool) where
               once : ¬ HasAt n clash t0 (suc i) (says k gs) (numberOf Twice)
               once x = subst T q (h .in-earlier (u - 1) (subst (StandsIn (earlierOf gs)) (that (x .0) (x .1 .1) ∙ sym (back (b .0))) (x .2)))
 
-              pub clashes : any n (λ j. mates j && clash (u - 1) j) ≡ true → Found t0 Clash (suc i)
+              pub clashes : any n (λ j. mates j && clash (u - 1) j) ≡ true → Found n clash t0 Clash (suc i)
               clashes c =
                   let w = any-get n (λ j. mates j && clash (u - 1) j) (subst T (sym c) tt) in
                   let j = w .0 in
                   let z : suc j - 1 ≡ j = omega arith in
-                  refuse Clash
-                  (u, stands, (suc j, h .mates-in j (and-l (mates j) (clash (u - 1) j) (w .2)), subst (λ (y : ℕ). T (clash (u - 1) y)) (sym z) (and-r (mates j) (clash (u - 1) j) (w .2))))
-                  low
+                  refuse Clash (
+                    u,
+                    stands,
+                    (
+                      suc j,
+                      h .mates-in j (and-l (mates j) (clash (u - 1) j) (w .2)),
+                      subst (λ (y : ℕ). T (clash (u - 1) y)) (sym z) (and-r (mates j) (clash (u - 1) j) (w .2)),
+                    ),
+                  ) low
                 where
                   low : (g : SheetFault) → place sheetOrder (numberOf g) < place sheetOrder (numberOf Clash) → ¬ HasAt n clash t0 (suc i) (says k gs) (numberOf g)
                   low Line c x = shaped x
@@ -363,7 +264,7 @@ module _ (n : ℕ) (clash : ℕ → ℕ → Bool) where
       → Held t0 (suc i) k (record { size = g .size; members = u ∷ g .members } ∷ gs) (placed p u) (λ j. mates j || eqb (u - 1) j) earlier t
   member-held t0 i k g gs p mates earlier l t h a u e b d c q = record {
     rest = after-next t0 i l t (h .rest);
-    clean = clean-more t0 i (h .clean) (line-clean t0 i (says k (g ∷ gs)) (h .lines) (member-clean t0 i k (g ∷ gs) p mates earlier l t h a u e b d c q));
+    clean = clean-more n clash t0 i (h .clean) (line-clean n clash t0 i (says k (g ∷ gs)) (h .lines) (member-clean t0 i k (g ∷ gs) p mates earlier l t h a u e b d c q));
     lines = ap (λ (x : Kind). x ∷ before t0 i) (kind-is t0 i k (g ∷ gs) p mates earlier l t h ∙ member-kind l u e) ∙ ap (λ (x : List Kind). memberLine u ∷ x) (h .lines);
     begun = refl;
     left = h .left;

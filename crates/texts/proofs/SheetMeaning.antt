@@ -1,16 +1,16 @@
 -- The words leave one answer to a sheet: one division or one refusal, and not both. Checking gives just that.
-use Prim.Native.Nat.{ℕ, zero, suc, _≤_}
+use Prim.Native.Nat.{ℕ, _≤_}
 use mathlib.Core.Path.{_≡_, refl, sym, ap, subst, _∙_}
-use mathlib.Core.Logic.{_⊎_, inl, inr, ⊎-elim}
+use mathlib.Core.Logic.{_⊎_, inl, inr}
 use mathlib.Core.List.{List}
 use mathlib.Core.Bool.{Bool}
 use native.Mathlib.Omega.{arith}
 use borrow.Author.Tests.{eqb-true}
 use lib.Dec.{T, eqb}
-use lib.ListN.{length, take}
+use lib.ListN.{take}
 use Rattle.clashes.specs.Divisions.{clashFree, groups}
 use Rattle.clashes.specs.Matrix.{Valid}
-use Rattle.lines.specs.Text.{Text, linesOf, lineCount}
+use Rattle.lines.specs.Text.{Text, linesOf}
 use Rattle.lists.specs.Read.{mostEntries, longestText}
 use Rattle.sheets.specs.Check.{accepted, sheetUpTo, sheetOf}
 use Rattle.sheets.specs.declared.SheetFault.{SheetFault}
@@ -21,11 +21,11 @@ use Rattle.sheet_texts.specs.Sheet.{sheetText}
 use Rattle.sheet_texts.proofs.Calls.{read-free}
 use Rattle.texts.specs.Faults.{Faultless}
 use Rattle.texts.specs.Sheets.{SheetOf}
-use Rattle.texts.specs.SheetFaults.{Saying, laid, before, OverPlace, StandsIn, groupsOf, Has, sheetOrder, LacksAt, Lacks, SheetRefused}
+use Rattle.texts.specs.SheetFaults.{Saying, OverPlace, Has, sheetOrder, LacksAt, Lacks, SheetRefused}
 use Rattle.texts.proofs.Refusals.{if-cases, refusal-one, refusal-none}
 use Rattle.texts.proofs.SheetKinds.{laid-one}
 use Rattle.texts.proofs.SheetAccepted.{sheet-accepted}
-use Rattle.texts.proofs.SheetLineFaults.{numberOf, has-known}
+use Rattle.texts.proofs.SheetFaultLaws.{numberOf, has-known}
 use Rattle.texts.proofs.SheetRefused.{SheetMeans, sheet-means}
 
 module _ (n : ℕ) (clash : ℕ → ℕ → Bool) where
@@ -57,10 +57,10 @@ module _ (n : ℕ) (clash : ℕ → ℕ → Bool) where
             f .0,
             ap (λ (m : ℕ). take m (f .0)) (sym e) ∙ f .1,
             ap (sheetOf n clash) (q .text)
-            ∙ ap (λ (m : ℕ). sheetOf m clash (sheetText c)) (sym e)
-            ∙ f .2
-            ∙ ap (λ (m : ℕ). accepted m (groups 0 c) (f .0)) e
-            ∙ ap (λ (m : ℕ). accepted n m (f .0)) (q .many),
+                ∙ ap (λ (m : ℕ). sheetOf m clash (sheetText c)) (sym e)
+                ∙ f .2
+                ∙ ap (λ (m : ℕ). accepted m (groups 0 c) (f .0)) e
+                ∙ ap (λ (m : ℕ). accepted n m (f .0)) (q .many),
           )
 
       sheet-faultless : (k : ℕ) (c : List ℕ) → SheetOf longest n clash s k c → Faultless longest s (Has n clash (linesOf s)) (Lacks n (linesOf s))
@@ -91,7 +91,8 @@ module _ (n : ℕ) (clash : ℕ → ℕ → Bool) where
       sheet-taken k c q = go (sheetUpTo most longest n clash s .answer) refl (sheet-means most n clash longest s)
         where
           go : (a : Checked) → sheetUpTo most longest n clash s .answer ≡ a → SheetMeans most n clash longest s a
-              → (sheetUpTo most longest n clash s .answer ≡ Accepted k) × (take n (sheetUpTo most longest n clash s .colours) ≡ c) × (sheetUpTo most longest n clash s .entries ≡ n)
+              → (sheetUpTo most longest n clash s .answer ≡ Accepted k) × (take n (sheetUpTo most longest n clash s .colours) ≡ c)
+              × (sheetUpTo most longest n clash s .entries ≡ n)
           go (Accepted m) e x =
               let r = sheet-accepted most longest n room clash valid s m e in
               let o = sheet-one few m k _ c (r .0) q in

@@ -10,7 +10,7 @@ use mathlib.Core.List.{List, [], _∷_}
 use mathlib.Core.Bool.{Bool, true, false, cond, _&&_, _||_}
 use native.Mathlib.Numerals.{add-one}
 use native.Mathlib.Omega.{arith}
-use borrow.Author.Tests.{leb-true, leb-false, ltb-true, ltb-false, eqb-true}
+use borrow.Author.Tests.{leb-true, leb-false, ltb-true, ltb-false}
 use lib.Dec.{T, leb, ltb, eqb}
 use lib.ListN.{length, set}
 use Rattle.sets.specs.Lists.{all, any}
@@ -21,23 +21,23 @@ use Rattle.lines.specs.declared.Alone.{Alone}
 use Rattle.lines.specs.declared.Alone.the-variants.{Only, Other}
 use Rattle.lists.specs.Read.{inside}
 use Rattle.lists.proofs.Fold.{inside-is}
-use Rattle.sheets.specs.Check.{accepted, groupsWord, sizeWord, behindOf, groupsOf, sizeOf, placed, memberOf, stepOf, met, none as nobody, start, noColoursUpTo, refusedUpTo, finishUpTo, cutUpTo, afterUpTo, checkFromUpTo, sheetUpTo}
+use Rattle.sheets.specs.Check.{accepted, groupsWord, sizeWord, behindOf, groupsOf, sizeOf, placed, memberOf, none as nobody, start, noColoursUpTo, refusedUpTo, finishUpTo, cutUpTo, afterUpTo, checkFromUpTo, sheetUpTo}
 use Rattle.sheets.specs.declared.SheetFault.{SheetFault}
 use Rattle.sheets.specs.declared.SheetFault.the-variants.{Long, Line, Member, Order, Twice, Clash, Ends, Missing, Extra}
 use Rattle.sheets.specs.declared.Checked.{Checked}
 use Rattle.sheets.specs.declared.Checked.the-variants.{Accepted, Unread, Short, Refused}
-use Rattle.sheets.specs.declared.Outcome.{Outcome}
 use Rattle.sheets.specs.declared.Progress.{Progress}
 use Rattle.sheets.specs.declared.Step.{Step}
 use Rattle.sheets.specs.declared.Step.the-variants.{Stop, Count, Place}
-use Rattle.texts.specs.Faults.{Unended, Outside, Clean, InLine, AtEnd, Faultless}
-use Rattle.texts.specs.SheetFaults.{Kind, groupsLine, kindOf, Group, Saying, nothing, says, laid, before, OverPlace, StandsIn, HasAt, Has, sheetOrder, LacksAt, Lacks, SheetRefused}
+use Rattle.texts.specs.Faults.{Unended, Clean, Faultless}
+use Rattle.texts.specs.SheetFaults.{Kind, Group, Saying, nothing, says, laid, before, OverPlace, StandsIn, HasAt, Has, sheetOrder, LacksAt, Lacks, SheetRefused}
 use Rattle.texts.specs.SheetFaults as words
 use Rattle.texts.proofs.Refusals.{if-cases, refusal-make, outside-is}
 use Rattle.texts.proofs.ListLines.{unended-none}
 use Rattle.texts.proofs.SheetKinds.{groups-kind, kind-groups, laid-one}
 use Rattle.texts.proofs.SheetSteps.{opening, begins}
-use Rattle.texts.proofs.SheetLineFaults.{numberOf, After, after-whole, after-next, stands-split, split-stands, Found, Held, line-clean, line-found, clean-more, extra, misshaped, in-text, no-size, size-held, no-member, outside, unordered, twice, clashes, member-held}
+use Rattle.texts.proofs.SheetFaultLaws.{numberOf, after-whole, after-next, stands-split, split-stands, Found, line-clean, line-found, clean-more}
+use Rattle.texts.proofs.SheetLineFaults.{Held, extra, misshaped, in-text, no-size, size-held, no-member, outside, unordered, twice, clashes, member-held}
 
 -- at an end that is not over, or where an entry is absent, a test is failed
 not-all : (n : ℕ) (p : ℕ → Bool) → all n p ≡ false → (j : ℕ) × (j < n) × (p j ≡ false)
@@ -103,7 +103,8 @@ module _ (most n : ℕ) (clash : ℕ → ℕ → Bool) where
         absent j e s = subst T e (⊎-elim (λ m. or-r (earlier j) (mates j) (h .in-mates j m)) (λ m. or-l (earlier j) (mates j) (h .in-earlier j m)) (stands-split gs (suc j) s))
 
         go : (b : Bool) → b ≡ true → (x : Bool) → leb 1 (p .need) ≡ x → (y : Bool) → leb 1 (p .left) ≡ y → (z : Bool) → all n (λ j. earlier j || mates j) ≡ z
-            → Means t0 (cond (cond b (cond x false (cond y false true)) false) (cond z (accepted n (p .opened) c) (refusedUpTo most Missing (i + 1))) (refusedUpTo most Ends (i + 1)) .answer)
+            → Means t0 (cond (cond b (cond x false (cond y false true)) false)
+            (cond z (accepted n (p .opened) c) (refusedUpTo most Missing (i + 1))) (refusedUpTo most Ends (i + 1)) .answer)
         go true e false x false y true z = record {
           clean = λ j b. h .clean j (omega (arith, count));
           full = lacks-none t0 (says k gs) said (over x y) (λ u. stood u (subst T (sym z) tt));
@@ -129,7 +130,8 @@ module _ (most n : ℕ) (clash : ℕ → ℕ → Bool) where
         go : (b : Bool) → b ≡ true → (x : Bool) → leb 1 (p .need) ≡ x → (y : Bool) → leb 1 (p .left) ≡ y
             → Means t0 (cond (cond b (cond x false (cond y false true)) false) (refusedUpTo most Extra (i + 1)) (refusedUpTo most Line (i + 1)) .answer)
         go true e false x false y =
-            found-at t0 i Extra (extra n clash t0 i k gs (h .lines) within (h .clean) (omega (arith, leb-false 1 (p .need) x, h .need), omega (arith, leb-false 1 (p .left) y, h .left)))
+            found-at t0 i Extra (extra n clash t0 i k gs (h .lines) within (h .clean)
+            (omega (arith, leb-false 1 (p .need) x, h .need), omega (arith, leb-false 1 (p .left) y, h .left)))
         go true e false x true y = early (λ o. omega (arith, o .1, leb-true 1 (p .left) y, h .left))
         go true e true x y z = early (λ o. omega (arith, o .0, leb-true 1 (p .need) x, h .need))
         go false e x y z w = absurd (subst T (sym e) tt)
@@ -187,7 +189,8 @@ module _ (most n : ℕ) (clash : ℕ → ℕ → Bool) where
     line-means k gs p mates earlier c h = go (p .begun) (h .begun) (leb 1 (p .need)) refl (leb 1 (p .left)) refl
       where
         go : (b : Bool) → b ≡ true → (x : Bool) → leb 1 (p .need) ≡ x → (y : Bool) → leb 1 (p .left) ≡ y
-            → Followed (cond b (cond x (memberOf n clash p mates earlier (aloneOf l)) (cond y (sizeOf p (behindOf sizeWord l)) (Stop Extra))) (groupsOf (behindOf groupsWord l))) mates earlier c
+            → Followed (cond b (cond x (memberOf n clash p mates earlier (aloneOf l)) (cond y (sizeOf p (behindOf sizeWord l)) (Stop Extra)))
+            (groupsOf (behindOf groupsWord l))) mates earlier c
         go true e true x y z = member-means k gs p mates earlier c h (leb-true 1 (p .need) x) (aloneOf l) refl
         go true e false x true y = size-means k gs p mates earlier c h (leb-false 1 (p .need) x) (leb-true 1 (p .left) y) (behindOf sizeWord l) refl
         go true e false x false y =

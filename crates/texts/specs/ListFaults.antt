@@ -15,7 +15,6 @@ use lib.Dec.{eqb}
 use Rattle.refusals.specs.Table.{numberOf, If}
 use Rattle.refusals.specs.declared.Refusal.the-variants.{Line, Headless, Second, Size, Vertex, Loop, Count, Room}
 use Rattle.lines.specs.Text.{Text, linesOf}
-use Rattle.lists.specs.declared.Shape.{Shape}
 use Rattle.lists.specs.declared.Shape.the-variants.{P, E, Bad}
 use Rattle.texts.specs.Faults.{Unended, Outside, Refusal}
 use Rattle.texts.specs.Listed.{At, edgeLines}
