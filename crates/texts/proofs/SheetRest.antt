@@ -71,10 +71,10 @@ fresh-cases false x y = inl (refl, refl)
 pub line-text : (w : List ℕ) (u : ℕ) (t : List ℕ) → (w ++ numeral u) ++ 10 ∷ t ≡ oneLine w u ++ t
 line-text w u t = simp append-assoc
 
-module _ (most n : ℕ) (few : n ≤ most) (clash : ℕ → ℕ → Bool) (valid : Valid n clash) where
-  pub at-take : (w : List ℕ) (j : ℕ) → j < n → at (take n w) j ≡ at w j
-  at-take w j h = getD-take n w j 0 h
+pub at-take : (n : ℕ) (w : List ℕ) (j : ℕ) → j < n → at (take n w) j ≡ at w j
+at-take n w j h = getD-take n w j 0 h
 
+module _ (most n : ℕ) (few : n ≤ most) (clash : ℕ → ℕ → Bool) (valid : Valid n clash) where
   -- ---- at the end
 
   module _ (p : Progress) (mates earlier : ℕ → Bool) (w : List ℕ) (st : Known most n p mates earlier w) where
@@ -160,7 +160,7 @@ module _ (most n : ℕ) (few : n ≤ most) (clash : ℕ → ℕ → Bool) (valid
             ∙ ap (λ (x : ℕ). membersOf (drop x (take n w)) x (p .opened)) y
             ∙ sym (members-skip (take n w) (p .opened) (p .first) 0 (λ j a b h e.
             let d : j < n = omega (arith, length-take-le n w (omega (arith, r .size))) in
-            ⊎-elim (λ x. x) (λ x. omega (arith, x .0)) (r .group j d (omega (arith, at-take w j d)))))
+            ⊎-elim (λ x. x) (λ x. omega (arith, x .0)) (r .group j d (omega (arith, at-take n w j d)))))
 
         text : bytesOf (ended l t) ≡ groupsText (take n w) (p .opened) (p .left)
         text =

@@ -139,15 +139,15 @@ module _ (most n : ℕ) (few : n ≤ most) (clash : ℕ → ℕ → Bool) (valid
                 ∙ sym (members-none (take n w) (p .opened - 1) (i + 1) (λ j a b e.
                 let d : j < n = omega (arith, long) in
                 ⊎-elim (λ x. ⊎-elim (λ y. omega (arith, st .mate-floor j y, s .above)) (λ y. omega (arith, eqb→eq i j y)) (or-cases (mates j) (eqb i j) x))
-                (λ x. omega (arith, x .1)) (r .group j d (omega (arith, at-take most n few clash valid w j d, st .inside (s .need))))))
+                (λ x. omega (arith, x .1)) (r .group j d (omega (arith, at-take n w j d, st .inside (s .need))))))
 
         ours : i ∷ r .members ≡ membersOf (drop (p .floor) (take n w)) (p .floor) (p .opened - 1)
         ours =
             ap (λ (x : List ℕ). i ∷ x) after-it
-            ∙ sym (members-next (take n w) (p .opened - 1) (p .floor) i (s .above) (omega (arith, long, s .below)) (omega (arith, at-take most n few clash valid w i (s .below), here)) (λ j a b d e.
+            ∙ sym (members-next (take n w) (p .opened - 1) (p .floor) i (s .above) (omega (arith, long, s .below)) (omega (arith, at-take n w i (s .below), here)) (λ j a b d e.
             let f : j < n = omega (arith, long) in
             ⊎-elim (λ x. ⊎-elim (λ y. omega (arith, st .mate-floor j y)) (λ y. omega (arith, eqb→eq i j y)) (or-cases (mates j) (eqb i j) x))
-            (λ x. omega (arith, x .0)) (r .group j f (omega (arith, at-take most n few clash valid w j f, st .inside (s .need))))))
+            (λ x. omega (arith, x .0)) (r .group j f (omega (arith, at-take n w j f, st .inside (s .need))))))
 
         text : bytesOf (ended l t) ≡ memberLines (i ∷ r .members) ++ groupsText (take n w) (p .opened) (p .left)
         text =
