@@ -1,21 +1,18 @@
--- `trials_lists::put_kept_rows` is safe and ends. Assumes nothing.
+-- `trials::put_kept_bytes` is safe and ends. Assumes nothing.
 use Prim.Native.Nat.{_-_}
 use lib.ListN.{length}
 use borrow.Author.Needs.{needs}
-use Rattle.trials_lists.proofs.put_kept_rows.Statement.{statement}
-use Rattle.trials_lists.proofs.put_kept_rows.Tie as tie
+use Rattle.trials.proofs.put_kept_bytes.Statement.{statement}
+use Rattle.trials.proofs.put_kept_bytes.Tie as tie
 
 abbrev Inv-loop : tie.InvT-loop
-Inv-loop rows from i₀ t4 t5 i = Unit {0}
+Inv-loop out from i₀ t4 t5 i = Unit {0}
 
 abbrev μ-loop : tie.MeasureT-loop
-μ-loop rows from i₀ t4 t5 i = length rows - i
+μ-loop out from i₀ t4 t5 i = length out - i
 
 loop-holds : tie.Need-loop-holds Inv-loop μ-loop
 loop-holds c = search needs
-
-mul-if1 : tie.Need-mul-if1 Inv-loop μ-loop
-mul-if1 c = search needs
 
 shared-slice-read-if1 : tie.Need-shared-slice-read-if1 Inv-loop μ-loop
 shared-slice-read-if1 c = search needs
@@ -47,14 +44,13 @@ put-requires-2 c κs = search needs
 returns-2 : tie.Need-returns-2 Inv-loop μ-loop
 returns-2 c = search needs
 
-pub put-kept-rows-spec : {M : Type 1} → statement M
-put-kept-rows-spec =
+pub put-kept-bytes-spec : {M : Type 1} → statement M
+put-kept-bytes-spec =
     tie.close
     (tie.spec
     Inv-loop
     μ-loop
     loop-holds
-    mul-if1
     shared-slice-read-if1
     slice-aggregate-put
     put-requires

@@ -1,9 +1,9 @@
--- `trials_lists::put_rows` is safe and ends. Assumes nothing.
+-- `trials::put_rows` is safe and ends. Assumes nothing.
 use Prim.Native.Nat.{_-_}
 use lib.ListN.{length}
 use borrow.Author.Needs.{needs}
-use Rattle.trials_lists.proofs.put_rows.Statement.{statement}
-use Rattle.trials_lists.proofs.put_rows.Tie as tie
+use Rattle.trials.proofs.put_rows.Statement.{statement}
+use Rattle.trials.proofs.put_rows.Tie as tie
 
 abbrev Inv-loop : tie.InvT-loop
 Inv-loop rows i₀ t3 i = Unit {0}
@@ -20,14 +20,14 @@ slice-aggregate-put c = search needs
 put-requires : tie.Need-put-requires Inv-loop μ-loop
 put-requires c κs = search needs
 
-mul-put-number : tie.Need-mul-put-number Inv-loop μ-loop
-mul-put-number c = search needs
+mul-put-word : tie.Need-mul-put-word Inv-loop μ-loop
+mul-put-word c = search needs
 
-shared-slice-read-put-number : tie.Need-shared-slice-read-put-number Inv-loop μ-loop
-shared-slice-read-put-number c = search needs
+shared-slice-read-put-word : tie.Need-shared-slice-read-put-word Inv-loop μ-loop
+shared-slice-read-put-word c = search needs
 
-put-number-requires : tie.Need-put-number-requires Inv-loop μ-loop
-put-number-requires c κs = search needs
+put-word-requires : tie.Need-put-word-requires Inv-loop μ-loop
+put-word-requires c κs = search needs
 
 add-i : tie.Need-add-i Inv-loop μ-loop
 add-i c = search needs
@@ -50,9 +50,9 @@ put-rows-spec =
     loop-holds
     slice-aggregate-put
     put-requires
-    mul-put-number
-    shared-slice-read-put-number
-    put-number-requires
+    mul-put-word
+    shared-slice-read-put-word
+    put-word-requires
     add-i
     loop-less
     loop-again

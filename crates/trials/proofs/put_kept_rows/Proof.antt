@@ -1,18 +1,21 @@
--- `trials_sheets::put_kept` is safe and ends. Assumes nothing.
-use borrow.Author.Needs.{needs}
+-- `trials::put_kept_rows` is safe and ends. Assumes nothing.
 use Prim.Native.Nat.{_-_}
 use lib.ListN.{length}
-use Rattle.trials_sheets.proofs.put_kept.Statement.{statement}
-use Rattle.trials_sheets.proofs.put_kept.Tie as tie
+use borrow.Author.Needs.{needs}
+use Rattle.trials.proofs.put_kept_rows.Statement.{statement}
+use Rattle.trials.proofs.put_kept_rows.Tie as tie
 
 abbrev Inv-loop : tie.InvT-loop
-Inv-loop out from i₀ t4 t5 i = Unit {0}
+Inv-loop rows from i₀ t4 t5 i = Unit {0}
 
 abbrev μ-loop : tie.MeasureT-loop
-μ-loop out from i₀ t4 t5 i = length out - i
+μ-loop rows from i₀ t4 t5 i = length rows - i
 
 loop-holds : tie.Need-loop-holds Inv-loop μ-loop
 loop-holds c = search needs
+
+mul-if1 : tie.Need-mul-if1 Inv-loop μ-loop
+mul-if1 c = search needs
 
 shared-slice-read-if1 : tie.Need-shared-slice-read-if1 Inv-loop μ-loop
 shared-slice-read-if1 c = search needs
@@ -44,13 +47,14 @@ put-requires-2 c κs = search needs
 returns-2 : tie.Need-returns-2 Inv-loop μ-loop
 returns-2 c = search needs
 
-pub put-kept-spec : {M : Type 1} → statement M
-put-kept-spec =
+pub put-kept-rows-spec : {M : Type 1} → statement M
+put-kept-rows-spec =
     tie.close
     (tie.spec
     Inv-loop
     μ-loop
     loop-holds
+    mul-if1
     shared-slice-read-if1
     slice-aggregate-put
     put-requires
