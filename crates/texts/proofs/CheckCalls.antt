@@ -12,7 +12,7 @@ use borrow.Author.Tests.{le-leb, lt-leb}
 use lib.ListN.{length, take, drop}
 use lib.Seq.{take-at, drop-at}
 use Rattle.clashes.specs.Matrix.{matrix}
-use Rattle.lists.specs.Read.{mostEntries, readUpTo}
+use Rattle.lists.specs.Read.{readUpTo}
 use Rattle.lists.specs.Promise.{numberOf as listNumberOf}
 use Rattle.lists.specs.declared.Fault.{Fault}
 use Rattle.lists.specs.declared.Fault.the-variants as list
@@ -137,12 +137,12 @@ module _ (most longest : ℕ) (list s old new : List ℕ) where
     lent-is : (o : Outcome) → checkUpTo most longest list s (length old) ≡ o → new ≡ writtenOf o old
     lent-is o e = x .lent ∙ ap (λ (y : Outcome). writtenOf y old) e
 
-    pub check-taken : (n : ℕ) (rows : List ℕ) → ListOf most longest list n rows → n ≤ mostEntries → n ≤ length old → (k : ℕ) (c : List ℕ) → SheetOf longest n (matrix rows) s k c
+    pub check-taken : (n : ℕ) (rows : List ℕ) → ListOf most longest list n rows → n < 10000000 → n ≤ length old → (k : ℕ) (c : List ℕ) → SheetOf longest n (matrix rows) s k c
         → (a ≡ Accepted k) × (new ≡ c ++ drop n old)
-    check-taken n rows l few h k c q =
+    check-taken n rows l sevens h k c q =
         let w = opened-so most longest list s (length old) n rows l h in
         let o = sheetUpTo most longest n (matrix rows) s in
-        let r = sheet-taken n (matrix rows) longest s most (l .few) few (list-valid most longest list n rows l) k c q in (
+        let r = sheet-taken n (matrix rows) longest s most (l .few) sevens (list-valid most longest list n rows l) k c q in (
           answer-is o (w .same) ∙ r .0,
           lent-is o (w .same)
               ∙ ap (λ (b : Checked). written b (o .entries) (o .colours) old) (r .0)

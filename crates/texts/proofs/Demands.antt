@@ -12,6 +12,7 @@ use mathlib.Core.Path.{_≡_}
 use mathlib.Core.Bool.{Bool}
 use mathlib.Core.List.{List, _++_}
 use Prim.Native.Nat.{ℕ, _≤_, _<_}
+use native.Mathlib.Omega.{arith}
 use lib.ListN.{length, take, drop}
 use Rattle.refusals.specs.Table.{numberOf}
 use Rattle.refusals.specs.declared.Refusal.the-variants.{Room}
@@ -67,6 +68,10 @@ module _ (most longest : ℕ) (s : List ℕ) where
   pub list-or-refusal : (n : ℕ) (rows : List ℕ) → ListOf most longest s n rows → (room : ℕ) → n ≤ room → (f k : ℕ) → ¬ ListRefused most longest s room f k
   list-or-refusal = lists.list-unrefused most longest s
 
+  -- With as many rows lent as a list can have entries, 17 cannot arise.
+  pub never-room : (k : ℕ) → ¬ ListRefused most longest s most (numberOf Room) k
+  never-room = lists.never-room most longest s
+
 -- ---- checking a sheet against a clash text
 
 module _ (list s old new : List ℕ) where
@@ -76,12 +81,9 @@ module _ (list s old new : List ℕ) where
       → (n : ℕ) × (rows : List ℕ) × ListOf 64 65536 list n rows × (n ≤ length old) × SheetOf 65536 n (matrix rows) s k (take n new) × (drop n new ≡ drop n old)
   check-accepted = checking.check-accepted 64 65536 list s old new
 
-  -- The clash text is refused, and 17 cannot arise; the colour bytes are fewer than n; or the sheet is refused. Nothing lent is written.
+  -- Not accepted: the clash text is refused, the colour bytes are fewer than n, or the sheet is refused, in this order. Nothing lent is written.
   pub check-unread : (f : Fault) (k : ℕ) → CheckPromise list s old (Unread f k) new → ListRefused 64 65536 list 64 (numberOf (listRefusal f)) k × (new ≡ old)
   check-unread = checking.check-unread 64 65536 list s old new
-
-  pub never-room : (k : ℕ) → ¬ ListRefused 64 65536 list 64 (numberOf Room) k
-  never-room = lists.never-room 64 65536 list
 
   pub check-short : CheckPromise list s old Short new → (n : ℕ) × (rows : List ℕ) × ListOf 64 65536 list n rows × (length old < n) × (new ≡ old)
   check-short = checking.check-short 64 65536 list s old new
@@ -91,7 +93,7 @@ module _ (list s old new : List ℕ) where
   check-refused = checking.check-refused 64 65536 list s old new
 
   module _ (a : Checked) (p : CheckPromise list s old a new) where
-    -- Each of these where the words say so: with that number, that line, and which text is at fault.
+    -- Each of these wherever the words say so, with that number, that line, and which text is at fault.
     pub check-unread-so : (f k : ℕ) → ListRefused 64 65536 list 64 f k → numbersOf a ≡ record { number = f; line = k; groups = 0; text = theList }
     check-unread-so = checking.check-unread-so 64 65536 list s old new a p
 
@@ -105,15 +107,16 @@ module _ (list s old new : List ℕ) where
 
       -- Every sheet that is the text of a clash-free division is accepted, with it.
       pub check-taken : n ≤ length old → (k : ℕ) (c : List ℕ) → SheetOf 65536 n (matrix rows) s k c → (a ≡ Accepted k) × (new ≡ c ++ drop n old)
-      check-taken = checking.check-taken 64 65536 list s old new a p n rows l (l .few)
+      check-taken = checking.check-taken 64 65536 list s old new a p n rows l (omega (arith, l .few))
 
 -- The words leave one division, or one refusal and one line, and not both.
 module _ (longest n : ℕ) (clash : ℕ → ℕ → Bool) (s : List ℕ) where
   pub one-sheet-refusal : (f g k j : ℕ) → SheetRefused longest n clash s f k → SheetRefused longest n clash s g j → (f ≡ g) × (k ≡ j)
   one-sheet-refusal = sheets.sheet-refusal-one n clash longest s
 
-  pub one-division : n ≤ 64 → (k m : ℕ) (c d : List ℕ) → SheetOf longest n clash s k c → SheetOf longest n clash s m d → (k ≡ m) × (c ≡ d)
+  -- a number in a text has at most 7 digits
+  pub one-division : n < 10000000 → (k m : ℕ) (c d : List ℕ) → SheetOf longest n clash s k c → SheetOf longest n clash s m d → (k ≡ m) × (c ≡ d)
   one-division = sheets.sheet-one n clash longest s
 
-  pub sheet-or-refusal : n ≤ 64 → (k : ℕ) (c : List ℕ) → SheetOf longest n clash s k c → (f j : ℕ) → ¬ SheetRefused longest n clash s f j
+  pub sheet-or-refusal : n < 10000000 → (k : ℕ) (c : List ℕ) → SheetOf longest n clash s k c → (f j : ℕ) → ¬ SheetRefused longest n clash s f j
   sheet-or-refusal = sheets.sheet-unrefused n clash longest s

@@ -1,5 +1,5 @@
 -- The words leave one answer to a sheet: one division or one refusal, and not both. Checking gives just that.
-use Prim.Native.Nat.{ℕ, _≤_}
+use Prim.Native.Nat.{ℕ, _≤_, _<_}
 use mathlib.Core.Path.{_≡_, refl, sym, ap, subst, _∙_}
 use mathlib.Core.Logic.{_⊎_, inl, inr}
 use mathlib.Core.List.{List}
@@ -7,18 +7,17 @@ use mathlib.Core.Bool.{Bool}
 use native.Mathlib.Omega.{arith}
 use borrow.Author.Tests.{eqb-true}
 use lib.Dec.{T, eqb}
-use lib.ListN.{take}
+use lib.ListN.{length, take}
 use Rattle.clashes.specs.Divisions.{clashFree, groups}
 use Rattle.clashes.specs.Matrix.{Valid}
 use Rattle.lines.specs.Text.{Text, linesOf}
-use Rattle.lists.specs.Read.{mostEntries, longestText}
-use Rattle.sheets.specs.Check.{accepted, sheetUpTo, sheetOf}
+use Rattle.sheets.specs.Check.{accepted, sheetUpTo}
 use Rattle.sheets.specs.declared.SheetFault.{SheetFault}
 use Rattle.sheets.specs.declared.Checked.{Checked}
 use Rattle.sheets.specs.declared.Checked.the-variants.{Accepted, Unread, Short, Refused}
 use Rattle.sheets.specs.declared.Outcome.{Outcome}
 use Rattle.sheet_texts.specs.Sheet.{sheetText}
-use Rattle.sheet_texts.proofs.Calls.{read-free}
+use Rattle.sheet_texts.proofs.Calls.{read-up-to-free}
 use Rattle.texts.specs.Faults.{Faultless}
 use Rattle.texts.specs.Sheets.{SheetOf}
 use Rattle.texts.specs.SheetFaults.{Saying, OverPlace, Has, sheetOrder, LacksAt, Lacks, SheetRefused}
@@ -49,15 +48,18 @@ module _ (n : ℕ) (clash : ℕ → ℕ → Bool) where
 
     -- ---- a division's text has no fault
 
-    module _ (few : n ≤ mostEntries) where
-      read-back : (k : ℕ) (c : List ℕ) → SheetOf longest n clash s k c → (w : List ℕ) × (take n w ≡ c) × (sheetOf n clash s ≡ accepted n k w)
+    -- numbers of more than 7 digits are not read
+    module _ (sevens : n < 10000000) where
+      read-back : (k : ℕ) (c : List ℕ) → SheetOf longest n clash s k c → (w : List ℕ) × (take n w ≡ c) × (sheetUpTo n longest n clash s ≡ accepted n k w)
       read-back k c q =
           let e = q .division .long in
-          let f = read-free c (q .division .numbered) (omega arith) clash (subst (λ (m : ℕ). T (clashFree m clash c)) (sym e) (q .free)) in (
+          let short = subst (λ (b : List ℕ). length b ≤ longest) (q .text) (q .short) in
+          let free = subst (λ (m : ℕ). T (clashFree m clash c)) (sym e) (q .free) in
+          let f = read-up-to-free n longest c (q .division .numbered) (omega arith) (omega arith) short clash free in (
             f .0,
             ap (λ (m : ℕ). take m (f .0)) (sym e) ∙ f .1,
-            ap (sheetOf n clash) (q .text)
-                ∙ ap (λ (m : ℕ). sheetOf m clash (sheetText c)) (sym e)
+            ap (sheetUpTo n longest n clash) (q .text)
+                ∙ ap (λ (m : ℕ). sheetUpTo n longest m clash (sheetText c)) (sym e)
                 ∙ f .2
                 ∙ ap (λ (m : ℕ). accepted m (groups 0 c) (f .0)) e
                 ∙ ap (λ (m : ℕ). accepted n m (f .0)) (q .many),
@@ -65,9 +67,7 @@ module _ (n : ℕ) (clash : ℕ → ℕ → Bool) where
 
       sheet-faultless : (k : ℕ) (c : List ℕ) → SheetOf longest n clash s k c → Faultless longest s (Has n clash (linesOf s)) (Lacks n (linesOf s))
       sheet-faultless k c q =
-          let r = read-back k c q in
-          let x = subst (SheetMeans mostEntries n clash longestText s) (ap (λ (o : Outcome). o .answer) (r .2)) (sheet-means mostEntries n clash longestText s) in
-          record { short = q .short; clean = x .clean; full = x .full }
+          subst (SheetMeans n n clash longest s) (ap (λ (o : Outcome). o .answer) (read-back k c q .2)) (sheet-means n n clash longest s)
 
       pub sheet-unrefused : (k : ℕ) (c : List ℕ) → SheetOf longest n clash s k c → (f j : ℕ) → ¬ SheetRefused longest n clash s f j
       sheet-unrefused k c q = refusal-none longest s (Has n clash (linesOf s)) sheetOrder (Lacks n (linesOf s)) (sheet-faultless k c q)
@@ -85,7 +85,7 @@ module _ (n : ℕ) (clash : ℕ → ℕ → Bool) where
     -- ---- what checking answers
 
     -- each sheet of a clash-free division is accepted with it
-    module _ (most : ℕ) (room : n ≤ most) (few : n ≤ mostEntries) (valid : Valid n clash) where
+    module _ (most : ℕ) (room : n ≤ most) (sevens : n < 10000000) (valid : Valid n clash) where
       pub sheet-taken : (k : ℕ) (c : List ℕ) → SheetOf longest n clash s k c
           → (sheetUpTo most longest n clash s .answer ≡ Accepted k) × (take n (sheetUpTo most longest n clash s .colours) ≡ c) × (sheetUpTo most longest n clash s .entries ≡ n)
       sheet-taken k c q = go (sheetUpTo most longest n clash s .answer) refl (sheet-means most n clash longest s)
@@ -95,9 +95,9 @@ module _ (n : ℕ) (clash : ℕ → ℕ → Bool) where
               × (sheetUpTo most longest n clash s .entries ≡ n)
           go (Accepted m) e x =
               let r = sheet-accepted most longest n room clash valid s m e in
-              let o = sheet-one few m k _ c (r .0) q in
+              let o = sheet-one sevens m k _ c (r .0) q in
               (e ∙ ap Accepted (o .0), o .1, r .1)
-          go (Refused f j) e x = absurd (sheet-unrefused few k c q (numberOf f) j x)
+          go (Refused f j) e x = absurd (sheet-unrefused sevens k c q (numberOf f) j x)
           go (Unread f j) e x = absurd x
           go Short e x = absurd x
 
