@@ -6,13 +6,13 @@
 --   Answers f rows a  : a is the answer for these rows, where f is the bound: the verdict is theirs, and, where it is valid, the value is the
 --                       bound of the graph of their list
 --
--- Document 01's number and row of an answer are those of its verdict (`numberOf`, `rowOf` of the crate clashes). Two answers that meet `Answers` are
--- equal (`answers-unique` of proofs/LentLaws.antt). Assumes nothing.
+-- Document 01's numbers of an answer are those of its verdict (`numbers` of the crate clashes), and its bound. Stated for lists of up to `most` entries
+-- (`AnswersUpTo most`), and named for today's 64. Two answers that meet it are equal (`answers-unique` of proofs/LentLaws.antt). Assumes nothing.
 use mathlib.Core.Path.{_≡_}
 use mathlib.Core.List.{List}
 use Prim.Native.Nat.{ℕ}
 use lib.ListN.{length}
-use Rattle.clashes.specs.Matrix.{matrix, Judged}
+use Rattle.clashes.specs.Matrix.{matrix, JudgedUpTo}
 use Rattle.clashes.specs.declared.Verdict.{Verdict}
 use Rattle.clashes.specs.declared.Verdict.the-variants.{Valid, Many, Stray, Itself, OneSided}
 use Rattle.graphs.specs.Graph.{Graph, graph}
@@ -40,6 +40,9 @@ answerOf (Stray i) b = stray i
 answerOf (Itself i) b = itself i
 answerOf (OneSided i) b = oneSided i
 
-pub record Answers (f : ℕ → Graph → ℕ) (rows : List ℕ) (a : Bound) : Type 0 where
-  pub verdict : Judged rows (verdictOf a)
+pub record AnswersUpTo (most : ℕ) (f : ℕ → Graph → ℕ) (rows : List ℕ) (a : Bound) : Type 0 where
+  pub verdict : JudgedUpTo most rows (verdictOf a)
   pub value : verdictOf a ≡ Valid → valueOf a ≡ f (length rows) (graph (length rows) (matrix rows))
+
+abbrev pub Answers : (ℕ → Graph → ℕ) → List ℕ → Bound → Type 0
+Answers f rows a = AnswersUpTo 64 f rows a

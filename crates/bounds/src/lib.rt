@@ -11,7 +11,7 @@ ghost use mathlib.Core.Path.{_≡_};
 ghost use lib.Dec.{leb};
 ghost use Rattle.graphs.specs.Held.{view, Held, Holds, Each};
 ghost use Rattle.bounds.specs.Names.{cliqueBound, mycielskian};
-ghost use Rattle.bounds.specs.Lent.{Answers};
+ghost use Rattle.bounds.specs.Lent.{answerOf, Answers};
 
 // A bound of a lent matrix, or document 01's refusals 1 to 4 with the lowest row at fault.
 pub enum Bound {
@@ -49,12 +49,12 @@ pub fn reaches(live: u64, rows: &[u64; 64], best: usize) -> bool
     best <= bound_among(live, rows, best)
 }
 
-// The clique bound of a lent matrix.
-pub fn clique_bound(rows: &[u64]) -> Bound
-    ensures { λ r. ⌜ Answers cliqueBound (now (rows .entry)) r ⌝ }
+// The answer for rows that are no list, which has no bound.
+fn unbounded(v: Verdict) -> Bound
+    ensures { λ r. ⌜ r ≡ answerOf v 0 ⌝ }
 {
-    match validity(rows) {
-        Verdict::Valid => Bound::At(clique_at(root(rows))),
+    match v {
+        Verdict::Valid => Bound::At(0),
         Verdict::Many => Bound::Many,
         Verdict::Stray(row) => Bound::Stray(row),
         Verdict::Itself(row) => Bound::Itself(row),
@@ -62,15 +62,24 @@ pub fn clique_bound(rows: &[u64]) -> Bound
     }
 }
 
+// The clique bound of a lent matrix.
+pub fn clique_bound(rows: &[u64]) -> Bound
+    ensures { λ r. ⌜ Answers cliqueBound (now (rows .entry)) r ⌝ }
+{
+    let v = validity(rows);
+    if let Verdict::Valid = v {
+        return Bound::At(clique_at(root(rows)));
+    }
+    unbounded(v)
+}
+
 // The Mycielskian bound of a lent matrix.
 pub fn mycielskian_bound(rows: &[u64]) -> Bound
     ensures { λ r. ⌜ Answers mycielskian (now (rows .entry)) r ⌝ }
 {
-    match validity(rows) {
-        Verdict::Valid => Bound::At(mycielskian_at(root(rows))),
-        Verdict::Many => Bound::Many,
-        Verdict::Stray(row) => Bound::Stray(row),
-        Verdict::Itself(row) => Bound::Itself(row),
-        Verdict::OneSided(row) => Bound::OneSided(row),
+    let v = validity(rows);
+    if let Verdict::Valid = v {
+        return Bound::At(mycielskian_at(root(rows)));
     }
+    unbounded(v)
 }

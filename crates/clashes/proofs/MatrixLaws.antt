@@ -18,7 +18,7 @@ use Rattle.sets.specs.Set.{has, IsBelow, IsLess}
 use Rattle.sets.proofs.TestLaws.{and-l, and-r, and-t, any-get, any-make}
 use Rattle.sets.proofs.MemberLaws.{lowest-is, lowest-none}
 use Rattle.sets.proofs.SetLaws.{has-none, has-beyond, has-shifted, some-member}
-use Rattle.clashes.specs.Matrix.{matrix, Valid, HasStray, HasItself, HasOneSided, LowestRow, NoRow, FirstRow, Inside, Apart, Sound, Judged, strayAt, itselfAt, oneSidedAt, refuse, judge}
+use Rattle.clashes.specs.Matrix.{matrix, Valid, HasStray, HasItself, HasOneSided, LowestRow, NoRow, FirstRow, InsideUpTo, ApartUpTo, SoundUpTo, JudgedUpTo, Judged, strayAt, itselfAt, oneSidedAt, refuse, judgeUpTo, judge}
 use Rattle.clashes.specs.declared.Verdict.{Verdict}
 use Rattle.clashes.specs.declared.Verdict.the-variants.{Valid as ok, Many, Stray, Itself, OneSided}
 
@@ -127,38 +127,50 @@ module _ (rows : List ℕ) where
   after-many : Option ℕ → Option ℕ → Option ℕ → Verdict
   after-many s t o = refuse s Stray (refuse t Itself (refuse o OneSided ok))
 
-  judge-few : length rows ≤ 64 → (s : Option ℕ) → lowest (strayAt rows) (length rows) ≡ s → judge rows ≡ after-many s (lowest (itselfAt rows) (length rows)) (lowest (oneSidedAt rows) (length rows))
+  abbrev searched : Verdict
+  searched = after-many (lowest (strayAt rows) (length rows)) (lowest (itselfAt rows) (length rows)) (lowest (oneSidedAt rows) (length rows))
+
+module _ (most : ℕ) (rows : List ℕ) where
+  judge-few : length rows ≤ most → (s : Option ℕ) → lowest (strayAt rows) (length rows) ≡ s
+      → judgeUpTo most rows ≡ after-many rows s (lowest (itselfAt rows) (length rows)) (lowest (oneSidedAt rows) (length rows))
   unfolding after-many
   judge-few h s e =
-      ap (λ (b : Bool). cond b Many (after-many (lowest (strayAt rows) (length rows)) (lowest (itselfAt rows) (length rows)) (lowest (oneSidedAt rows) (length rows)))) (le-ltb 64 (length rows) h)
-      ∙ ap (λ (x : Option ℕ). after-many x (lowest (itselfAt rows) (length rows)) (lowest (oneSidedAt rows) (length rows))) e
+      ap (λ (b : Bool). cond b Many (searched rows)) (le-ltb most (length rows) h)
+      ∙ ap (λ (x : Option ℕ). after-many rows x (lowest (itselfAt rows) (length rows)) (lowest (oneSidedAt rows) (length rows))) e
 
-  judge-inside : Inside rows → (t : Option ℕ) → lowest (itselfAt rows) (length rows) ≡ t → judge rows ≡ after-many none t (lowest (oneSidedAt rows) (length rows))
+  judge-inside : InsideUpTo most rows → (t : Option ℕ) → lowest (itselfAt rows) (length rows) ≡ t
+      → judgeUpTo most rows ≡ after-many rows none t (lowest (oneSidedAt rows) (length rows))
   judge-inside h t e =
-      judge-few (h .few) none (no-stray-at (h .no-stray)) ∙ ap (λ (x : Option ℕ). after-many none x (lowest (oneSidedAt rows) (length rows))) e
+      judge-few (h .few) none (no-stray-at rows (h .no-stray)) ∙ ap (λ (x : Option ℕ). after-many rows none x (lowest (oneSidedAt rows) (length rows))) e
 
-  judge-apart : Apart rows → (o : Option ℕ) → lowest (oneSidedAt rows) (length rows) ≡ o → judge rows ≡ after-many none none o
-  judge-apart h o e = judge-inside (h .inside) none (no-itself-at (h .no-itself)) ∙ ap (after-many none none) e
+  judge-apart : ApartUpTo most rows → (o : Option ℕ) → lowest (oneSidedAt rows) (length rows) ≡ o → judgeUpTo most rows ≡ after-many rows none none o
+  judge-apart h o e = judge-inside (h .inside) none (no-itself-at rows (h .no-itself)) ∙ ap (after-many rows none none) e
 
-  pub judged-is : (a : Verdict) → Judged rows a → judge rows ≡ a
+  pub judged-up-to-is : (a : Verdict) → JudgedUpTo most rows a → judgeUpTo most rows ≡ a
   unfolding after-many
-  judged-is ok p = judge-apart (p .apart) none (no-one-sided-at (p .no-one-sided))
-  judged-is Many p = ap (λ (b : Bool). cond b Many (after-many (lowest (strayAt rows) (length rows)) (lowest (itselfAt rows) (length rows)) (lowest (oneSidedAt rows) (length rows)))) (lt-ltb 64 (length rows) p)
-  judged-is (Stray i) p = judge-few (p .0) (some i) (stray-at i (p .1))
-  judged-is (Itself i) p = judge-inside (p .0) (some i) (itself-at i (p .1))
-  judged-is (OneSided i) p = judge-apart (p .0) (some i) (one-sided-at i (p .1))
+  judged-up-to-is ok p = judge-apart (p .apart) none (no-one-sided-at rows (p .no-one-sided))
+  judged-up-to-is Many p = ap (λ (b : Bool). cond b Many (searched rows)) (lt-ltb most (length rows) p)
+  judged-up-to-is (Stray i) p = judge-few (p .0) (some i) (stray-at rows i (p .1))
+  judged-up-to-is (Itself i) p = judge-inside (p .0) (some i) (itself-at rows i (p .1))
+  judged-up-to-is (OneSided i) p = judge-apart (p .0) (some i) (one-sided-at rows i (p .1))
 
-  pub judged-unique : (a b : Verdict) → Judged rows a → Judged rows b → a ≡ b
-  judged-unique a b p q = sym (judged-is a p) ∙ judged-is b q
+  pub judged-up-to-unique : (a b : Verdict) → JudgedUpTo most rows a → JudgedUpTo most rows b → a ≡ b
+  judged-up-to-unique a b p q = sym (judged-up-to-is a p) ∙ judged-up-to-is b q
 
-  -- ---- a sound matrix is a valid list, and the other way round
+pub judged-is : (rows : List ℕ) (a : Verdict) → Judged rows a → judge rows ≡ a
+judged-is = judged-up-to-is 64
 
-  pub sound-valid : Sound rows → Valid (length rows) (matrix rows)
-  sound-valid s = record {
-    no-self = s .apart .no-itself;
-    both-ways = λ x y a b t. by-T (matrix rows y x) (λ f. s .no-one-sided x a (y, b, t, f));
-  }
-    where
-      by-T : (b : Bool) → ((T b → ⊥) → ⊥) → T b
-      by-T true f = tt
-      by-T false f = f (λ t. t)
+pub judged-unique : (rows : List ℕ) (a b : Verdict) → Judged rows a → Judged rows b → a ≡ b
+judged-unique = judged-up-to-unique 64
+
+-- ---- a sound matrix is a valid list, and the other way round
+
+pub sound-valid : {most : ℕ} (rows : List ℕ) → SoundUpTo most rows → Valid (length rows) (matrix rows)
+sound-valid rows s = record {
+  no-self = s .apart .no-itself;
+  both-ways = λ x y a b t. by-T (matrix rows y x) (λ f. s .no-one-sided x a (y, b, t, f));
+}
+  where
+    by-T : (b : Bool) → ((T b → ⊥) → ⊥) → T b
+    by-T true f = tt
+    by-T false f = f (λ t. t)

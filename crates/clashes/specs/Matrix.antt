@@ -9,17 +9,22 @@
 --   LowestRow P n i    : i is the lowest row below n of which P holds
 --   NoRow P n          : P holds of no row below n
 --   FirstRow P n i     : i is the lowest row below n of which P holds, or n where there is none
---   Judged rows a      : a is the answer for these rows
---   numberOf a, rowOf a: document 01's number of an answer, 0 where it is accepted, and the row that it names, 0 where it names none
+--   Sound rows         : no fault at all: not too many rows, no stray bit, no row with its own bit, every clash returned
+--   numbers a          : an answer in the numbers of document 01's table (crate refusals)
+--   Unsound rows r i   : what the refusal with the number r and the row i says is so
+--   Judged rows a      : a is the answer for these rows: what its numbers say is so
 --   judge rows         : the answer, computed
 --
+-- Each is stated for lists of up to `most` entries (`SoundUpTo most`, ..), a row being a natural number, and is then named for today's 64.
 -- Assumes nothing.
 use mathlib.Core.Bool.{Bool, not, _&&_, cond}
 use mathlib.Core.List.{List}
 use mathlib.Core.Option.{Option, none, some}
 use Prim.Native.Nat.{ℕ, zero, _≤_, _<_, _^_}
-use lib.Dec.{T, leb, ltb}
+use lib.Dec.{T, leb, ltb, eqb}
 use lib.ListN.{length, getD}
+use Rattle.refusals.specs.Table.{Told, told, fine, accepted, numberOf, If}
+use Rattle.refusals.specs.declared.Refusal.the-variants as refusal
 use Rattle.sets.specs.Lists.{any, lowest}
 use Rattle.sets.specs.Set.{has}
 use Rattle.clashes.specs.declared.Verdict.{Verdict}
@@ -54,41 +59,41 @@ pub record FirstRow (P : ℕ → Type 0) (n i : ℕ) : Type 0 where
   pub here : i < n → P i
   pub earlier : (j : ℕ) → j < i → ¬ P j
 
--- at most 64 rows, and no stray bit
-pub record Inside (rows : List ℕ) : Type 0 where
-  pub few : length rows ≤ 64
-  pub no-stray : NoRow (HasStray rows) (length rows)
+-- document 01's numbers
+abbrev pub numbers : Verdict → Told
+numbers ok = fine
+numbers Many = told refusal.Many 0
+numbers (Stray i) = told refusal.Stray i
+numbers (Itself i) = told refusal.Itself i
+numbers (OneSided i) = told refusal.OneSided i
 
--- and no row with its own bit
-pub record Apart (rows : List ℕ) : Type 0 where
-  pub inside : Inside rows
-  pub no-itself : NoRow (HasItself rows) (length rows)
+module _ (most : ℕ) where
+  -- not too many rows, and no stray bit
+  pub record InsideUpTo (rows : List ℕ) : Type 0 where
+    pub few : length rows ≤ most
+    pub no-stray : NoRow (HasStray rows) (length rows)
 
--- and no row whose clash is not returned
-pub record Sound (rows : List ℕ) : Type 0 where
-  pub apart : Apart rows
-  pub no-one-sided : NoRow (HasOneSided rows) (length rows)
+  -- and no row with its own bit
+  pub record ApartUpTo (rows : List ℕ) : Type 0 where
+    pub inside : InsideUpTo rows
+    pub no-itself : NoRow (HasItself rows) (length rows)
 
-abbrev pub Judged : List ℕ → Verdict → Type 0
-Judged rows ok = Sound rows
-Judged rows Many = 64 < length rows
-Judged rows (Stray i) = (length rows ≤ 64) × LowestRow (HasStray rows) (length rows) i
-Judged rows (Itself i) = Inside rows × LowestRow (HasItself rows) (length rows) i
-Judged rows (OneSided i) = Apart rows × LowestRow (HasOneSided rows) (length rows) i
+  -- and no row whose clash is not returned
+  pub record SoundUpTo (rows : List ℕ) : Type 0 where
+    pub apart : ApartUpTo rows
+    pub no-one-sided : NoRow (HasOneSided rows) (length rows)
 
-abbrev pub numberOf : Verdict → ℕ
-numberOf ok = 0
-numberOf Many = 1
-numberOf (Stray i) = 2
-numberOf (Itself i) = 3
-numberOf (OneSided i) = 4
+  -- what a refusal of the rows says, by its number in the table and the row beside it
+  abbrev pub UnsoundUpTo : List ℕ → ℕ → ℕ → Type 0
+  UnsoundUpTo rows number i =
+      If (eqb number (numberOf refusal.Many)) (most < length rows)
+      (If (eqb number (numberOf refusal.Stray)) ((length rows ≤ most) × LowestRow (HasStray rows) (length rows) i)
+      (If (eqb number (numberOf refusal.Itself)) (InsideUpTo rows × LowestRow (HasItself rows) (length rows) i)
+      (If (eqb number (numberOf refusal.OneSided)) (ApartUpTo rows × LowestRow (HasOneSided rows) (length rows) i)
+      ⊥)))
 
-abbrev pub rowOf : Verdict → ℕ
-rowOf ok = 0
-rowOf Many = 0
-rowOf (Stray i) = i
-rowOf (Itself i) = i
-rowOf (OneSided i) = i
+  abbrev pub JudgedUpTo : List ℕ → Verdict → Type 0
+  JudgedUpTo rows a = If (eqb (numbers a .number) accepted) (SoundUpTo rows) (UnsoundUpTo rows (numbers a .number) (numbers a .row))
 
 -- ---- computed
 
@@ -106,9 +111,26 @@ abbrev pub refuse : Option ℕ → (ℕ → Verdict) → Verdict → Verdict
 refuse none f next = next
 refuse (some i) f next = f i
 
-abbrev pub judge : List ℕ → Verdict
-judge rows =
-    cond (ltb 64 (length rows)) Many
+abbrev pub judgeUpTo : ℕ → List ℕ → Verdict
+judgeUpTo most rows =
+    cond (ltb most (length rows)) Many
     (refuse (lowest (strayAt rows) (length rows)) Stray
     (refuse (lowest (itselfAt rows) (length rows)) Itself
     (refuse (lowest (oneSidedAt rows) (length rows)) OneSided ok)))
+
+-- ---- up to 64 entries
+
+abbrev pub Inside : List ℕ → Type 0
+Inside rows = InsideUpTo 64 rows
+
+abbrev pub Apart : List ℕ → Type 0
+Apart rows = ApartUpTo 64 rows
+
+abbrev pub Sound : List ℕ → Type 0
+Sound rows = SoundUpTo 64 rows
+
+abbrev pub Judged : List ℕ → Verdict → Type 0
+Judged rows a = JudgedUpTo 64 rows a
+
+abbrev pub judge : List ℕ → Verdict
+judge rows = judgeUpTo 64 rows

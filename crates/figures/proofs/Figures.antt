@@ -23,11 +23,11 @@ use Rattle.mycielski.specs.Rounds as rounds
 use Rattle.bounds.specs.Names.{mycielskian, mycielskian-is}
 use Rattle.zykov.specs.Tree.{levels, grown, below, zykov}
 use Rattle.zykov.specs.Walk.{State, walk}
-use Rattle.walk.specs.Promise.{Numbers, numbers, Promised, refused, walked, answer}
+use Rattle.walk.specs.Promise.{Numbers, numbers, Promised, refused, walked, answerUpTo}
 use Rattle.walk.specs.declared.Answer.{Answer}
 use Rattle.walk.specs.declared.Answer.the-variants.{Accepted, Many, Stray, Itself, OneSided, Short, Budget, Deep}
 use Rattle.walk.proofs.PromiseLaws.{promised-answer}
-use Rattle.figures.specs.Table.{Row, table, walkOf, same, sameList, passes, Holds}
+use Rattle.figures.specs.Table.{Row, table, walkOf, same, sameList, passes, Confirmed}
 
 -- ---- the computation
 
@@ -62,11 +62,11 @@ named r = ap (λ (b : ℕ → Graph → ℕ). walkOf b r) (λ i n g. sym (myciel
 
 module _ (w : ℕ → (ℕ → ℕ → Bool) → State) (rows before other : List ℕ) (budget : ℕ) where
   -- the answer does not depend on the buffer, where that is long enough
-  answer-any : length rows ≤ length before → length rows ≤ length other → answer w rows before budget ≡ answer w rows other budget
+  answer-any : length rows ≤ length before → length rows ≤ length other → answerUpTo 64 w rows before budget ≡ answerUpTo 64 w rows other budget
   answer-any b c =
       ap
-      (λ t. refused w rows before budget (judge rows)
-      (cond t Short (cond (ltb 64 (levels (zykov (length rows) (matrix rows)))) Deep (walked w rows before budget (w (length rows) (matrix rows))))))
+      (λ t. refused (judge rows)
+      (cond t Short (cond (ltb 64 (levels (zykov (length rows) (matrix rows)))) Deep (walked 64 w rows before budget (w (length rows) (matrix rows))))))
       (le-ltb (length before) (length rows) b ∙ sym (le-ltb (length other) (length rows) c))
 
 -- where the number is 0 the answer is an accepted one
@@ -89,7 +89,7 @@ module _ (r : Row) (t : T (passes r)) where
   zeros = listOf (λ i. zero) n
 
   abbrev numbers? : Bool
-  numbers? = same (numbers (answer (walkOf rounds.mycielskian r) (r .rows) zeros (r .budget))) (r .want)
+  numbers? = same (numbers (answerUpTo 64 (walkOf rounds.mycielskian r) (r .rows) zeros (r .budget))) (r .want)
 
   abbrev colours? : Bool
   colours? = cond (eqb (r .want .number) zero) (sameList (walkOf rounds.mycielskian r n (matrix (r .rows)) .best) (r .colours)) true
@@ -104,9 +104,9 @@ module _ (r : Row) (t : T (passes r)) where
   numbers-hold : (before after : List ℕ) (a : Answer) → n ≤ length before → Promised (walkOf mycielskian r) (r .rows) before (r .budget) a after → numbers a ≡ r .want
   numbers-hold before after a b p =
       ap numbers
-      (sym (promised-answer (walkOf mycielskian r) (r .rows) before (r .budget) a after p)
+      (sym (promised-answer 64 (walkOf mycielskian r) (r .rows) before (r .budget) a after p)
       ∙ answer-any (walkOf mycielskian r) (r .rows) before zeros (r .budget) b (le-of-eq (sym (length-table (λ i. zero) n)))
-      ∙ ap (λ w. answer w (r .rows) zeros (r .budget)) (sym (named r)))
+      ∙ ap (λ w. answerUpTo 64 w (r .rows) zeros (r .budget)) (sym (named r)))
       ∙ same-is _ (r .want) (and-l numbers? (colours? && twice?) parts)
 
   colours-hold : T colours? → r .want .number ≡ zero → walkOf rounds.mycielskian r n (matrix (r .rows)) .best ≡ r .colours
@@ -119,7 +119,7 @@ module _ (r : Row) (t : T (passes r)) where
       eqb→eq (suc (r .twice)) (2 * freeDivisions n (matrix (r .rows)))
       (subst (λ b. T (cond b true (eqb (suc (r .twice)) (2 * freeDivisions n (matrix (r .rows)))))) (T→false (eqb (r .twice) zero) (λ u. q (eqb→eq (r .twice) zero u))) c)
 
-  holds : Holds r
+  holds : Confirmed r
   holds = record {
     numbers-are = numbers-hold;
     colours-are = λ before after a b p e.
@@ -128,5 +128,5 @@ module _ (r : Row) (t : T (passes r)) where
     twice-is = twice-holds (and-r colours? twice? (and-r numbers? (colours? && twice?) parts));
   }
 
-pub figures : (r : Row) → In r table → Holds r
+pub figures : (r : Row) → In r table → Confirmed r
 figures r i = holds r (every-get passes table all-pass r i)

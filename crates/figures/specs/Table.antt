@@ -1,11 +1,12 @@
 -- Document 01, "Small lists and their figures": the starred rows, all in one table, and the test that a row passes.
 --
 --   Row            : a list, which walk takes it, its budget, the numbers of its answer, 2 P - 1 (0 where the paper gives none), and its colours
+--   bare, atRow, afterNodes : the numbers of a refusal, as the paper prints them: alone, with a row, with nodes
 --   bounded, spent, refused, plain : a row of each kind
 --   table          : the rows
 --   walkOf bound r : the described walk that takes r
 --   passes r       : the answer for r, computed, is the one in the table
---   Holds r        : whoever promises as the walks do gives that answer, and writes those colours
+--   Confirmed r    : whoever promises as the walks do gives that answer, and writes those colours
 --
 -- `figures` of proofs/Figures.antt: every row of the table holds. Assumes nothing.
 use mathlib.Core.Path.{_≡_}
@@ -22,7 +23,7 @@ use Rattle.graphs.specs.Graph.{Graph}
 use Rattle.mycielski.specs.Rounds as rounds
 use Rattle.bounds.specs.Names.{mycielskian}
 use Rattle.zykov.specs.Walk.{State, boundedWalk, plainWalk}
-use Rattle.walk.specs.Promise.{Numbers, numbers, bare, atRow, afterNodes, Promised, answer}
+use Rattle.walk.specs.Promise.{Numbers, numbers, Promised, answerUpTo}
 use Rattle.walk.specs.declared.Answer.{Answer}
 
 pub record Row : Type 0 where
@@ -32,6 +33,16 @@ pub record Row : Type 0 where
   pub want : Numbers
   pub twice : ℕ
   pub colours : List ℕ
+
+-- the paper's own numbers, so that the table of refusals is held to them
+abbrev pub bare : ℕ → Numbers
+bare r = record { number = r; k = 0; nodes = 0; leaves = 0; row = 0 }
+
+abbrev pub atRow : ℕ → ℕ → Numbers
+atRow r i = record { number = r; k = 0; nodes = 0; leaves = 0; row = i }
+
+abbrev pub afterNodes : ℕ → ℕ → Numbers
+afterNodes r m = record { number = r; k = 0; nodes = m; leaves = 0; row = 0 }
 
 -- a list that the bounded walk accepts, with an ample budget: k, nodes, 2 P - 1, colours
 abbrev pub bounded : List ℕ → ℕ → ℕ → ℕ → List ℕ → Row
@@ -91,13 +102,13 @@ sameList (x ∷ l) (y ∷ m) = eqb x y && sameList l m
 -- with a buffer of n zeros
 unfoldable pub passes : Row → Bool
 passes r =
-    same (numbers (answer (walkOf rounds.mycielskian r) (r .rows) (listOf (λ i. zero) (length (r .rows))) (r .budget))) (r .want)
+    same (numbers (answerUpTo 64 (walkOf rounds.mycielskian r) (r .rows) (listOf (λ i. zero) (length (r .rows))) (r .budget))) (r .want)
     && (cond (eqb (r .want .number) zero) (sameList (walkOf rounds.mycielskian r (length (r .rows)) (matrix (r .rows)) .best) (r .colours)) true
     && cond (eqb (r .twice) zero) true (eqb (suc (r .twice)) (2 * freeDivisions (length (r .rows)) (matrix (r .rows)))))
 
 -- ---- what it means
 
-pub record Holds (r : Row) : Type 0 where
+pub record Confirmed (r : Row) : Type 0 where
   pub numbers-are : (before after : List ℕ) (a : Answer) → length (r .rows) ≤ length before
       → Promised (walkOf mycielskian r) (r .rows) before (r .budget) a after → numbers a ≡ r .want
   pub colours-are : (before after : List ℕ) (a : Answer) → length (r .rows) ≤ length before

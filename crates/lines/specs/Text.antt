@@ -3,13 +3,15 @@
 --   Text          : a run of lines: none (done), one that is not ended, or one that is ended and those after it
 --   linesOf s     : the lines of the bytes s
 --   lineNo t k    : line k of the lines t, counted from 0, without its line feed; nothing past the last
+--   lineCount t   : how many lines t has
+--   Within t k    : line k, counted from 1 as in a refusal, is one of the lines t
 --   firstLine s   : the bytes before the first line feed
 --   lineEnd s a   : where the line that starts at place a ends: at its line feed, or at the text's end
 --   nextStart s a : where the line after it starts: past its line feed, or at the text's end
 --   placeOf s k   : where line k starts, counted from 0; past the last, the text's end
 --
 -- Assumes nothing.
-use Prim.Native.Nat.{ℕ, zero, suc, _+_}
+use Prim.Native.Nat.{ℕ, zero, suc, _+_, _≤_}
 use mathlib.Core.List.{List, [], _∷_}
 use mathlib.Core.Bool.{Bool, true, false, cond}
 use lib.ListN.{length, drop}
@@ -41,6 +43,14 @@ lineNo (unended l) zero = l
 lineNo (unended l) (suc k) = []
 lineNo (ended l t) zero = l
 lineNo (ended l t) (suc k) = lineNo t k
+
+abbrev pub lineCount : Text → ℕ
+lineCount done = 0
+lineCount (unended l) = 1
+lineCount (ended l t) = suc (lineCount t)
+
+abbrev pub Within : Text → ℕ → Type 0
+Within t k = (1 ≤ k) × (k ≤ lineCount t)
 
 abbrev pub firstLine : List ℕ → List ℕ
 firstLine [] = []

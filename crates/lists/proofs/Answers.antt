@@ -5,12 +5,12 @@ use Prim.Native.Nat.{ℕ, _≤_, zero-le}
 use mathlib.Core.Path.{_≡_, refl, sym, ap, subst, _∙_}
 use mathlib.Core.List.{List, _++_}
 use lib.ListN.{length, take, drop}
-use Rattle.lists.specs.Read.{readOf, written, writtenOf}
-use Rattle.lists.specs.Promise.{ReadPromise}
+use Rattle.lists.specs.Read.{readUpTo, written, writtenOf}
+use Rattle.lists.specs.Promise.{ReadPromiseUpTo}
 use Rattle.lists.specs.declared.Found.{Found}
 use Rattle.lists.specs.declared.Reading.{Reading}
 use Rattle.lists.specs.declared.Reading.the-variants.{Read, Refused}
-use Rattle.lists.proofs.Fold.{Bounded, read-few, read-fits}
+use Rattle.lists.proofs.Fold.{Bounded, read-up-to-few, read-up-to-fits}
 
 abbrev pub stored : Reading → ℕ
 stored (Read n) = n
@@ -24,17 +24,17 @@ stored-bounded : (k : ℕ) (a : Reading) → Bounded k a → stored a ≤ k
 stored-bounded k (Read n) h = h
 stored-bounded k (Refused f l) h = zero-le
 
-module _ (s : List ℕ) (old : List ℕ) (f : Found) (e : f ≡ readOf s (length old)) (n : ℕ) (q : n ≡ stored (f .answer)) where
-  told : readOf s (length old) .answer ≡ f .answer
+module _ (most longest : ℕ) (s : List ℕ) (old : List ℕ) (f : Found) (e : f ≡ readUpTo most longest s (length old)) (n : ℕ) (q : n ≡ stored (f .answer)) where
+  told : readUpTo most longest s (length old) .answer ≡ f .answer
   told = sym (ap (λ (x : Found). x .answer) e)
 
-  pub stored-fits : (n ≤ 64) × (n ≤ length old)
+  pub stored-fits : (n ≤ most) × (n ≤ length old)
   stored-fits = rw q (
-    stored-bounded 64 (f .answer) (subst (Bounded 64) told (read-few s (length old))),
-    stored-bounded (length old) (f .answer) (subst (Bounded (length old)) told (read-fits s (length old))),
+    stored-bounded most (f .answer) (subst (Bounded most) told (read-up-to-few most longest s (length old))),
+    stored-bounded (length old) (f .answer) (subst (Bounded (length old)) told (read-up-to-fits most longest s (length old))),
   )
 
-  pub stored-promise : (a : Reading) (new : List ℕ) → a ≡ f .answer → new ≡ take n (f .rows) ++ drop n old → ReadPromise s old a new
+  pub stored-promise : (a : Reading) (new : List ℕ) → a ≡ f .answer → new ≡ take n (f .rows) ++ drop n old → ReadPromiseUpTo most longest s old a new
   stored-promise a new p w = record {
     answer = p ∙ sym told;
     lent = w ∙ rw q (sym (stored-written (f .answer) (f .rows) old)) ∙ ap (λ (x : Found). writtenOf x old) e;

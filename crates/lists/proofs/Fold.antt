@@ -1,4 +1,4 @@
--- One turn of the loop over the lines, and what holds of every text: n is at most 64 and at most the room.
+-- One turn of the loop over the lines, and what holds of every text: n is at most the most entries and at most the room.
 use Prim.Native.Nat.{ℕ, _+_, _-_, _*_, _%_, _^_, _≤_, _<_}
 use mathlib.Core.Path.{_≡_, refl, sym, ap, subst, _∙_}
 use mathlib.Core.List.{List}
@@ -13,7 +13,7 @@ use Rattle.lines.specs.Text.{Text, done, unended, ended, linesOf, lineEnd}
 use Rattle.lines.proofs.Basics.{cond-cases}
 use Rattle.lines.proofs.Lines.{line-ended, line-unended}
 use Rattle.lists.specs.Shape.{shapeOf}
-use Rattle.lists.specs.Read.{noRows, refused, inside, edgeOf, stepOf, mark, join, finish, after, readFrom, start, readOf}
+use Rattle.lists.specs.Read.{noRowsUpTo, refusedUpTo, inside, edgeOf, stepUpTo, mark, join, finishUpTo, afterUpTo, readFromUpTo, start, readUpTo, mostEntries, longestText, readOf}
 use Rattle.lists.specs.declared.Shape.{Shape}
 use Rattle.lists.specs.declared.Shape.the-variants.{Comment, P, E, Bad}
 use Rattle.lists.specs.declared.Fault.the-variants.{Line, Long}
@@ -49,15 +49,16 @@ edge-kept h k u v a =
     (λ _. tt))
     (λ _. tt)
 
--- both bounds of n: 64, and the room
-pub step-kept : (h : Head) (room : ℕ) (s : Shape) (k : ℕ) → ((n : ℕ) → n ≤ 64 → n ≤ room → n ≤ k) → h .n ≤ k → Kept k (h .count) (stepOf h room s)
-step-kept h room Bad k f a = tt
-step-kept h room Comment k f a = (a, omega arith)
-step-kept h room (P n m) k f a =
-    let K = Kept k (h .count) in
-    cond-cases K (h .seen) _ _ (λ _. tt)
-    (λ _. cond-cases K (leb n 64) _ _ (λ e. cond-cases K (leb n room) _ _ (λ r. (f n (leb-true n 64 e) (leb-true n room r), omega arith)) (λ _. tt)) (λ _. tt))
-step-kept h room (E u v) k f a = cond-cases (Kept k (h .count)) (h .seen) _ _ (λ _. edge-kept h k u v a) (λ _. tt)
+module _ (most : ℕ) where
+  -- both bounds of n: the most entries, and the room
+  pub step-kept : (h : Head) (room : ℕ) (s : Shape) (k : ℕ) → ((n : ℕ) → n ≤ most → n ≤ room → n ≤ k) → h .n ≤ k → Kept k (h .count) (stepUpTo most h room s)
+  step-kept h room Bad k f a = tt
+  step-kept h room Comment k f a = (a, omega arith)
+  step-kept h room (P n m) k f a =
+      let K = Kept k (h .count) in
+      cond-cases K (h .seen) _ _ (λ _. tt)
+      (λ _. cond-cases K (leb n most) _ _ (λ e. cond-cases K (leb n room) _ _ (λ r. (f n (leb-true n most e) (leb-true n room r), omega arith)) (λ _. tt)) (λ _. tt))
+  step-kept h room (E u v) k f a = cond-cases (Kept k (h .count)) (h .seen) _ _ (λ _. edge-kept h k u v a) (λ _. tt)
 
 -- ---- the rows
 
@@ -72,73 +73,83 @@ bit-is j h = rw one-mul (mod-eq-of-lt (pow-lt h))
 
 -- ---- the loop's places
 
-pub read-halts : (s : List ℕ) (room a e k : ℕ) (h : Head) (g : List ℕ) → e ≡ lineEnd s a → a < length s → length s ≤ e
-    → readFrom (linesOf (drop a s)) room k h g ≡ refused Line k
-read-halts s room a e k h g q i l = ap (λ (t : Text). readFrom t room k h g) (line-unended s a e q i l)
+module _ (most : ℕ) where
+  pub read-halts : (s : List ℕ) (room a e k : ℕ) (h : Head) (g : List ℕ) → e ≡ lineEnd s a → a < length s → length s ≤ e
+      → readFromUpTo most (linesOf (drop a s)) room k h g ≡ refusedUpTo most Line k
+  read-halts s room a e k h g q i l = ap (λ (t : Text). readFromUpTo most t room k h g) (line-unended s a e q i l)
 
-pub read-ends : (s : List ℕ) (room a k : ℕ) (h : Head) (g : List ℕ) → length s ≤ a → readFrom (linesOf (drop a s)) room k h g ≡ finish h g k
-read-ends s room a k h g l = rw (drop-of-length-le s l)
+  pub read-ends : (s : List ℕ) (room a k : ℕ) (h : Head) (g : List ℕ) → length s ≤ a → readFromUpTo most (linesOf (drop a s)) room k h g ≡ finishUpTo most h g k
+  read-ends s room a k h g l = rw (drop-of-length-le s l)
 
-pub read-short : (s : List ℕ) (room : ℕ) → length s ≤ 65536 → readFrom (linesOf s) room 1 start noRows ≡ readOf s room
-read-short s room l = sym (ap (λ (b : Bool). cond b (readFrom (linesOf s) room 1 start noRows) (refused Long 0)) (le-leb _ _ l))
+  -- a line that is ended at e, and the step that it makes
+  module _ (s : List ℕ) (room a e k : ℕ) (h : Head) (g : List ℕ) (q : e ≡ lineEnd s a) (l : e < length s) where
+    pub turn : (st : Step) → stepUpTo most h room (shapeOf (take (e - a) (drop a s))) ≡ st
+        → readFromUpTo most (linesOf (drop a s)) room k h g ≡ afterUpTo most st g k (readFromUpTo most (linesOf (drop (e + 1) s)) room (k + 1))
+    turn st p =
+        ap (λ (t : Text). readFromUpTo most t room k h g) (line-ended s a e q l)
+        ∙ ap (λ (x : Step). afterUpTo most x g k (readFromUpTo most (linesOf (drop (e + 1) s)) room (k + 1))) p
 
-pub read-long : (s : List ℕ) (room : ℕ) → 65536 < length s → readOf s room ≡ refused Long 0
-read-long s room l = rw (lt-leb (length s) 65536 l)
+    -- the rest of the text, with what is known next, is what it was
+    pub record Turned (h′ : Head) (g′ : List ℕ) : Type 0 where
+      pub few : h′ .n ≤ most
+      pub counted : h′ .count ≤ h .count + 1
+      pub size : length g′ ≡ most
+      pub same : readFromUpTo most (linesOf (drop (e + 1) s)) room (k + 1) h′ g′ ≡ readFromUpTo most (linesOf (drop a s)) room k h g
 
--- a line that is ended at e, and the step that it makes
-module _ (s : List ℕ) (room a e k : ℕ) (h : Head) (g : List ℕ) (q : e ≡ lineEnd s a) (l : e < length s) where
-  pub turn : (st : Step) → stepOf h room (shapeOf (take (e - a) (drop a s))) ≡ st
-      → readFrom (linesOf (drop a s)) room k h g ≡ after st g k (readFrom (linesOf (drop (e + 1) s)) room (k + 1))
-  turn st p =
-      ap (λ (t : Text). readFrom t room k h g) (line-ended s a e q l)
-      ∙ ap (λ (x : Step). after x g k (readFrom (linesOf (drop (e + 1) s)) room (k + 1))) p
+    module _ (z : length g ≡ most) (few : h .n ≤ most) where
+      keeps : (st : Step) → stepUpTo most h room (shapeOf (take (e - a) (drop a s))) ≡ st → Kept most (h .count) st
+      keeps st p = subst (Kept most (h .count)) p (step-kept most h room (shapeOf (take (e - a) (drop a s))) most (λ n x y. x) few)
 
-  -- the rest of the text, with what is known next, is what it was
-  pub record Turned (h′ : Head) (g′ : List ℕ) : Type 0 where
-    pub few : h′ .n ≤ 64
-    pub counted : h′ .count ≤ h .count + 1
-    pub size : length g′ ≡ 64
-    pub same : readFrom (linesOf (drop (e + 1) s)) room (k + 1) h′ g′ ≡ readFrom (linesOf (drop a s)) room k h g
+      pub ends-below : (x : Head) (i j : ℕ) → stepUpTo most h room (shapeOf (take (e - a) (drop a s))) ≡ Edge x i j → (i < most) × (j < most)
+      ends-below x i j p = let d = keeps (Edge x i j) p in (omega (arith, d .0, d .2), omega (arith, d .0, d .3))
 
-  module _ (z : length g ≡ 64) (few : h .n ≤ 64) where
-    keeps : (st : Step) → stepOf h room (shapeOf (take (e - a) (drop a s))) ≡ st → Kept 64 (h .count) st
-    keeps st p = subst (Kept 64 (h .count)) p (step-kept h room (shapeOf (take (e - a) (drop a s))) 64 (λ n x y. x) few)
+      pub turned-go : (x : Head) → stepUpTo most h room (shapeOf (take (e - a) (drop a s))) ≡ Go x → (h′ : Head) (g′ : List ℕ) → g′ ≡ g → h′ ≡ x → Turned h′ g′
+      turned-go x p h′ g′ eg eh =
+          let d = keeps (Go x) p in
+          rw (eg, eh) (record { few = d .0; counted = omega (arith, d .1); size = z; same = sym (turn (Go x) p) })
 
-    pub ends-below : (x : Head) (i j : ℕ) → stepOf h room (shapeOf (take (e - a) (drop a s))) ≡ Edge x i j → (i < 64) × (j < 64)
-    ends-below x i j p = let d = keeps (Edge x i j) p in (omega (arith, d .0, d .2), omega (arith, d .0, d .3))
+      pub turned-edge : (x : Head) (i j : ℕ) → stepUpTo most h room (shapeOf (take (e - a) (drop a s))) ≡ Edge x i j
+          → (h′ : Head) (g′ g₁ g₂ : List ℕ) → g₁ ≡ mark g i j → g₂ ≡ mark g₁ j i → g′ ≡ g₂ → h′ ≡ x → Turned h′ g′
+      turned-edge x i j p h′ g′ g₁ g₂ e₁ e₂ eg eh =
+          let d = keeps (Edge x i j) p in
+          rw (eg, eh, e₂, e₁) (record { few = d .0; counted = d .1; size = join-length g i j ∙ z; same = sym (turn (Edge x i j) p) })
 
-    pub turned-go : (x : Head) → stepOf h room (shapeOf (take (e - a) (drop a s))) ≡ Go x → (h′ : Head) (g′ : List ℕ) → g′ ≡ g → h′ ≡ x → Turned h′ g′
-    turned-go x p h′ g′ eg eh =
-        let d = keeps (Go x) p in
-        rw (eg, eh) (record { few = d .0; counted = omega (arith, d .1); size = z; same = sym (turn (Go x) p) })
-
-    pub turned-edge : (x : Head) (i j : ℕ) → stepOf h room (shapeOf (take (e - a) (drop a s))) ≡ Edge x i j
-        → (h′ : Head) (g′ g₁ g₂ : List ℕ) → g₁ ≡ mark g i j → g₂ ≡ mark g₁ j i → g′ ≡ g₂ → h′ ≡ x → Turned h′ g′
-    turned-edge x i j p h′ g′ g₁ g₂ e₁ e₂ eg eh =
-        let d = keeps (Edge x i j) p in
-        rw (eg, eh, e₂, e₁) (record { few = d .0; counted = d .1; size = join-length g i j ∙ z; same = sym (turn (Edge x i j) p) })
-
--- ---- an accepted list has at most 64 entries, and no more than the room
+-- ---- an accepted list has at most the most entries, and no more than the room
 
 abbrev pub Bounded : ℕ → Reading → Type 0
 Bounded k (Read n) = n ≤ k
 Bounded k (Refused f l) = Unit {0}
 
-from-bounded : (t : Text) (room l : ℕ) (h : Head) (g : List ℕ) (k : ℕ) → ((n : ℕ) → n ≤ 64 → n ≤ room → n ≤ k) → h .n ≤ k → Bounded k (readFrom t room l h g .answer)
-from-bounded done room l h g k f a = cond-cases (λ (x : Found). Bounded k (x .answer)) (h .seen) _ _ (λ _. cond-cases (λ (x : Found). Bounded k (x .answer)) (eqb (h .count) (h .m)) _ _ (λ _. a) (λ _. tt)) (λ _. tt)
-from-bounded (unended x) room l h g k f a = tt
-from-bounded (ended x t) room l h g k f a = go (stepOf h room (shapeOf x)) (step-kept h room (shapeOf x) k f a) (λ h g. from-bounded t room (l + 1) h g k f)
-  where
-    go : (st : Step) → Kept k (h .count) st → ((h : Head) (g : List ℕ) → h .n ≤ k → Bounded k (readFrom t room (l + 1) h g .answer)) → Bounded k (after st g l (readFrom t room (l + 1)) .answer)
-    go (Stop f) d r = tt
-    go (Go y) d r = r y g (d .0)
-    go (Edge y i j) d r = r y (join g i j) (d .0)
+module _ (most : ℕ) where
+  from-bounded : (t : Text) (room l : ℕ) (h : Head) (g : List ℕ) (k : ℕ) → ((n : ℕ) → n ≤ most → n ≤ room → n ≤ k) → h .n ≤ k → Bounded k (readFromUpTo most t room l h g .answer)
+  from-bounded done room l h g k f a = cond-cases (λ (x : Found). Bounded k (x .answer)) (h .seen) _ _ (λ _. cond-cases (λ (x : Found). Bounded k (x .answer)) (eqb (h .count) (h .m)) _ _ (λ _. a) (λ _. tt)) (λ _. tt)
+  from-bounded (unended x) room l h g k f a = tt
+  from-bounded (ended x t) room l h g k f a = go (stepUpTo most h room (shapeOf x)) (step-kept most h room (shapeOf x) k f a) (λ h g. from-bounded t room (l + 1) h g k f)
+    where
+      go : (st : Step) → Kept k (h .count) st → ((h : Head) (g : List ℕ) → h .n ≤ k → Bounded k (readFromUpTo most t room (l + 1) h g .answer))
+          → Bounded k (afterUpTo most st g l (readFromUpTo most t room (l + 1)) .answer)
+      go (Stop f) d r = tt
+      go (Go y) d r = r y g (d .0)
+      go (Edge y i j) d r = r y (join g i j) (d .0)
 
-read-bounded : (s : List ℕ) (room k : ℕ) → ((n : ℕ) → n ≤ 64 → n ≤ room → n ≤ k) → Bounded k (readOf s room .answer)
-read-bounded s room k f = cond-cases (λ (x : Found). Bounded k (x .answer)) (leb (length s) 65536) _ _ (λ _. from-bounded (linesOf s) room 1 start noRows k f (omega arith)) (λ _. tt)
+module _ (most longest : ℕ) where
+  pub read-short : (s : List ℕ) (room : ℕ) → length s ≤ longest → readFromUpTo most (linesOf s) room 1 start (noRowsUpTo most) ≡ readUpTo most longest s room
+  read-short s room l = sym (ap (λ (b : Bool). cond b (readFromUpTo most (linesOf s) room 1 start (noRowsUpTo most)) (refusedUpTo most Long 0)) (le-leb _ _ l))
 
-pub read-few : (s : List ℕ) (room : ℕ) → Bounded 64 (readOf s room .answer)
-read-few s room = read-bounded s room 64 (λ n x y. x)
+  pub read-long : (s : List ℕ) (room : ℕ) → longest < length s → readUpTo most longest s room ≡ refusedUpTo most Long 0
+  read-long s room l = rw (lt-leb (length s) longest l)
+
+  read-bounded : (s : List ℕ) (room k : ℕ) → ((n : ℕ) → n ≤ most → n ≤ room → n ≤ k) → Bounded k (readUpTo most longest s room .answer)
+  read-bounded s room k f = cond-cases (λ (x : Found). Bounded k (x .answer)) (leb (length s) longest) _ _ (λ _. from-bounded most (linesOf s) room 1 start (noRowsUpTo most) k f (omega arith)) (λ _. tt)
+
+  pub read-up-to-few : (s : List ℕ) (room : ℕ) → Bounded most (readUpTo most longest s room .answer)
+  read-up-to-few s room = read-bounded s room most (λ n x y. x)
+
+  pub read-up-to-fits : (s : List ℕ) (room : ℕ) → Bounded room (readUpTo most longest s room .answer)
+  read-up-to-fits s room = read-bounded s room room (λ n x y. y)
+
+pub read-few : (s : List ℕ) (room : ℕ) → Bounded mostEntries (readOf s room .answer)
+read-few = read-up-to-few mostEntries longestText
 
 pub read-fits : (s : List ℕ) (room : ℕ) → Bounded room (readOf s room .answer)
-read-fits s room = read-bounded s room room (λ n x y. y)
+read-fits = read-up-to-fits mostEntries longestText

@@ -1,9 +1,6 @@
 -- The line that a refusal of a clash text names: 18 none; a fault of a line that line, which for 17 is the p line; a fault at the text's end (16, or
 -- 11 where no line is a p line) the number of lines plus one.
 --
---   lineCount t   : how many lines t has
---   Within t k    : line k is one of the lines t, which count from 1
---   shapeAt t k   : the shape of line k; there is no line 0
 --   Bare b t k    : no p line stands before line k; b is whether one stands before t, false for a whole text
 --   Named b t f k : where the fault f may be found, if line k is named
 --   Names t a     : the answer a to the whole text t names such a line, if it refuses
@@ -17,11 +14,11 @@ use mathlib.Core.Logic.{_⊎_, inl, inr}
 use native.Mathlib.Omega.{arith}
 use lib.Dec.{T, leb, eqb}
 use lib.ListN.{length}
-use Rattle.lines.specs.Text.{Text, done, unended, ended, linesOf, lineNo}
+use Rattle.lines.specs.Text.{Text, done, unended, ended, linesOf, lineCount, Within}
 use Rattle.lines.proofs.Basics.{cond-cases}
-use Rattle.lists.specs.Shape.{shapeOf}
-use Rattle.lists.specs.Read.{noRows, inside, edgeOf, stepOf, join, after, readFrom, start, readOf}
-use Rattle.lists.specs.Promise.{ReadPromise}
+use Rattle.lists.specs.Shape.{shapeOf, shapeAt, isP, isE}
+use Rattle.lists.specs.Read.{noRowsUpTo, inside, edgeOf, stepUpTo, join, afterUpTo, readFromUpTo, start, readUpTo}
+use Rattle.lists.specs.Promise.{ReadPromiseUpTo}
 use Rattle.lists.specs.declared.Shape.{Shape}
 use Rattle.lists.specs.declared.Shape.the-variants.{Comment, P, E, Bad}
 use Rattle.lists.specs.declared.Fault.{Fault}
@@ -32,30 +29,6 @@ use Rattle.lists.specs.declared.Reading.{Reading}
 use Rattle.lists.specs.declared.Reading.the-variants.{Read, Refused}
 use Rattle.lists.specs.declared.Step.{Step}
 use Rattle.lists.specs.declared.Step.the-variants.{Stop, Go, Edge}
-
-abbrev pub lineCount : Text → ℕ
-lineCount done = 0
-lineCount (unended l) = 1
-lineCount (ended l t) = suc (lineCount t)
-
-abbrev pub Within : Text → ℕ → Type 0
-Within t k = (1 ≤ k) × (k ≤ lineCount t)
-
-abbrev pub shapeAt : Text → ℕ → Shape
-shapeAt t zero = Bad
-shapeAt t (suc i) = shapeOf (lineNo t i)
-
-abbrev pub isP : Shape → Bool
-isP (P n m) = true
-isP (E u v) = false
-isP Comment = false
-isP Bad = false
-
-abbrev pub isE : Shape → Bool
-isE (E u v) = true
-isE (P n m) = false
-isE Comment = false
-isE Bad = false
 
 abbrev pub Bare : Bool → Text → ℕ → Type 0
 Bare b t k = (b ≡ false) × ((j : ℕ) → suc j < k → isP (shapeAt t (suc j)) ≡ false)
@@ -129,19 +102,20 @@ edge-in h b s u v =
     (λ _ l t _. within-first l t))
     (λ _ l t _. within-first l t)
 
-step-in : (h : Head) (room : ℕ) (s : Shape) → InLine (h .seen) s (stepOf h room s)
-step-in h room Bad = λ l t _. within-first l t
-step-in h room Comment = λ e. (e, refl)
-step-in h room (P n m) =
-    let I = InLine (h .seen) (P n m) in
-    cond-cases I (h .seen) _ _ (λ _ l t _. within-first l t)
-    (λ e. cond-cases I (leb n 64) _ _
-    (λ _. cond-cases I (leb n room) _ _ (λ _ e. absurd (subst T e tt))
-    (λ _ l t q. (bare-first (h .seen) (ended l t) e, (within-first l t, subst (λ (s : Shape). T (isP s)) (sym q) tt))))
-    (λ _ l t _. within-first l t))
-step-in h room (E u v) =
-    cond-cases (InLine (h .seen) (E u v)) (h .seen) _ _ (λ _. edge-in h (h .seen) (E u v) u v)
-    (λ e l t q. (bare-first (h .seen) (ended l t) e, inl (within-first l t, subst (λ (s : Shape). T (isE s)) (sym q) tt)))
+module _ (most : ℕ) where
+  step-in : (h : Head) (room : ℕ) (s : Shape) → InLine (h .seen) s (stepUpTo most h room s)
+  step-in h room Bad = λ l t _. within-first l t
+  step-in h room Comment = λ e. (e, refl)
+  step-in h room (P n m) =
+      let I = InLine (h .seen) (P n m) in
+      cond-cases I (h .seen) _ _ (λ _ l t _. within-first l t)
+      (λ e. cond-cases I (leb n most) _ _
+      (λ _. cond-cases I (leb n room) _ _ (λ _ e. absurd (subst T e tt))
+      (λ _ l t q. (bare-first (h .seen) (ended l t) e, (within-first l t, subst (λ (s : Shape). T (isP s)) (sym q) tt))))
+      (λ _ l t _. within-first l t))
+  step-in h room (E u v) =
+      cond-cases (InLine (h .seen) (E u v)) (h .seen) _ _ (λ _. edge-in h (h .seen) (E u v) u v)
+      (λ e l t q. (bare-first (h .seen) (ended l t) e, inl (within-first l t, subst (λ (s : Shape). T (isE s)) (sym q) tt)))
 
 -- ---- a text
 
@@ -154,30 +128,32 @@ from-later : (a : Reading) (b c : Bool) (l : List ℕ) (t : Text) (k : ℕ) → 
 from-later (Read n) b c l t k d h = tt
 from-later (Refused f j) b c l t k d h = (suc (h .0), omega (arith, h .1), named-later f b c l t (h .0) d (h .2))
 
-from-names : (t : Text) (room k : ℕ) (h : Head) (g : List ℕ) → From (h .seen) t k (readFrom t room k h g .answer)
-from-names done room k h g =
-    let F : Found → Type 0 = λ x. From (h .seen) done k (x .answer) in
-    cond-cases F (h .seen) _ _ (λ _. cond-cases F (eqb (h .count) (h .m)) _ _ (λ _. tt) (λ _. (0, omega arith, omega arith)))
-    (λ e. (0, omega arith, (bare-first (h .seen) done e, inr (omega arith))))
-from-names (unended l) room k h g = (0, omega arith, (omega arith, omega arith))
-from-names (ended l t) room k h g = go (stepOf h room (shapeOf l)) (step-in h room (shapeOf l)) (from-names t room (k + 1))
-  where
-    go : (st : Step) → InLine (h .seen) (shapeOf l) st → ((x : Head) (y : List ℕ) → From (x .seen) t (k + 1) (readFrom t room (k + 1) x y .answer))
-        → From (h .seen) (ended l t) k (after st g k (readFrom t room (k + 1)) .answer)
-    go (Stop f) d r = (0, omega arith, d l t refl)
-    go (Go x) d r = from-later (readFrom t room (k + 1) x g .answer) (h .seen) (x .seen) l t k d (r x g)
-    go (Edge x i j) d r = from-later (readFrom t room (k + 1) x (join g i j) .answer) (h .seen) (x .seen) l t k d (r x (join g i j))
+module _ (most : ℕ) where
+  from-names : (t : Text) (room k : ℕ) (h : Head) (g : List ℕ) → From (h .seen) t k (readFromUpTo most t room k h g .answer)
+  from-names done room k h g =
+      let F : Found → Type 0 = λ x. From (h .seen) done k (x .answer) in
+      cond-cases F (h .seen) _ _ (λ _. cond-cases F (eqb (h .count) (h .m)) _ _ (λ _. tt) (λ _. (0, omega arith, omega arith)))
+      (λ e. (0, omega arith, (bare-first (h .seen) done e, inr (omega arith))))
+  from-names (unended l) room k h g = (0, omega arith, (omega arith, omega arith))
+  from-names (ended l t) room k h g = go (stepUpTo most h room (shapeOf l)) (step-in most h room (shapeOf l)) (from-names t room (k + 1))
+    where
+      go : (st : Step) → InLine (h .seen) (shapeOf l) st → ((x : Head) (y : List ℕ) → From (x .seen) t (k + 1) (readFromUpTo most t room (k + 1) x y .answer))
+          → From (h .seen) (ended l t) k (afterUpTo most st g k (readFromUpTo most t room (k + 1)) .answer)
+      go (Stop f) d r = (0, omega arith, d l t refl)
+      go (Go x) d r = from-later (readFromUpTo most t room (k + 1) x g .answer) (h .seen) (x .seen) l t k d (r x g)
+      go (Edge x i j) d r = from-later (readFromUpTo most t room (k + 1) x (join g i j) .answer) (h .seen) (x .seen) l t k d (r x (join g i j))
 
 whole : (t : Text) (a : Reading) → From false t 1 a → Names t a
 whole t (Read n) h = tt
 whole t (Refused f j) h = let e : suc (h .0) ≡ j = omega (arith, h .1) in subst (Named false t f) e (h .2)
 
--- the law
-pub read-names : (s : List ℕ) (room : ℕ) → Names (linesOf s) (readOf s room .answer)
-read-names s room =
-    cond-cases (λ (x : Found). Names (linesOf s) (x .answer)) (leb (length s) 65536) _ _
-    (λ _. whole (linesOf s) (readFrom (linesOf s) room 1 start noRows .answer) (from-names (linesOf s) room 1 start noRows)) (λ _. refl)
+module _ (most longest : ℕ) where
+  -- the law
+  pub read-names : (s : List ℕ) (room : ℕ) → Names (linesOf s) (readUpTo most longest s room .answer)
+  read-names s room =
+      cond-cases (λ (x : Found). Names (linesOf s) (x .answer)) (leb (length s) longest) _ _
+      (λ _. whole (linesOf s) (readFromUpTo most (linesOf s) room 1 start (noRowsUpTo most) .answer) (from-names most (linesOf s) room 1 start (noRowsUpTo most))) (λ _. refl)
 
--- and so the call
-pub call-names : (s old : List ℕ) (a : Reading) (new : List ℕ) → ReadPromise s old a new → Names (linesOf s) a
-call-names s old a new p = subst (Names (linesOf s)) (sym (p .answer)) (read-names s (length old))
+  -- and so the call
+  pub call-names : (s old : List ℕ) (a : Reading) (new : List ℕ) → ReadPromiseUpTo most longest s old a new → Names (linesOf s) a
+  call-names s old a new p = subst (Names (linesOf s)) (sym (p .answer)) (read-names s (length old))

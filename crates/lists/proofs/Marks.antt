@@ -20,7 +20,7 @@ use Rattle.sets.specs.Lists.{In}
 use Rattle.sets.proofs.TestLaws.{or-l, or-r, or-cases, eqb-of}
 use Rattle.sets.proofs.SetLaws.{with-is, has-none}
 use Rattle.clashes.specs.Matrix.{matrix}
-use Rattle.lists.specs.Read.{noRows, mark, join}
+use Rattle.lists.specs.Read.{noRowsUpTo, mark, join}
 use Rattle.lists.proofs.Fold.{mark-length, join-length}
 
 -- ---- one mark
@@ -153,5 +153,5 @@ zeros zero a = refl
 zeros (suc k) zero = refl
 zeros (suc k) (suc a) = zeros k a
 
-pub none-bare : (a b : ℕ) → T (matrix noRows a b) → ⊥
-none-bare a b t = subst T (ap (λ (x : ℕ). has x b) (zeros 64 a) ∙ has-none b) t
+pub none-bare : (most a b : ℕ) → T (matrix (noRowsUpTo most) a b) → ⊥
+none-bare most a b t = subst T (ap (λ (x : ℕ). has x b) (zeros most a) ∙ has-none b) t

@@ -1,20 +1,26 @@
 -- What the callable functions promise, and document 01's numbers of their answers.
 --
---   numberOf f              : document 01's number of a fault
+--   refusalOf f             : the refusal of document 01's table (crate refusals) that a fault is
+--   numberOf f              : its number
 --   Numbers                 : an answer in numbers: the refusal (0: accepted), its line or row, and n or the text's length; 0 where not named
 --   readNumbers a           : the numbers of reading's answer
 --   writeNumbers a          : the numbers of writing's answer
 --   ReadPromise s old a new : reading the text s with the rows old lent answers a and leaves the rows new
 --   WritePromise rows old a new : writing the list of these rows with the bytes old lent answers a and leaves the bytes new
 --
+-- Both promises are stated for any limits (`ReadPromiseUpTo most longest`, `WritePromiseUpTo most`) and then named for today's.
 -- Assumes nothing.
 use Prim.Native.Nat.{ℕ}
 use mathlib.Core.Path.{_≡_}
 use mathlib.Core.List.{List}
 use lib.ListN.{length}
-use Rattle.lists.specs.Read.{readOf, writtenOf}
+use Rattle.refusals.specs.Table.{Told, told, accepted}
+use Rattle.refusals.specs.Table as table
+use Rattle.refusals.specs.declared.Refusal.{Refusal}
+use Rattle.refusals.specs.declared.Refusal.the-variants as refusal
+use Rattle.lists.specs.Read.{mostEntries, longestText, readUpTo, writtenOf}
 use Rattle.lists.specs.Write.{textOf, answerOf, leftOf}
-use Rattle.clashes.specs.Matrix.{Judged}
+use Rattle.clashes.specs.Matrix.{JudgedUpTo}
 use Rattle.clashes.specs.declared.Verdict.{Verdict}
 use Rattle.lists.specs.declared.Fault.{Fault}
 use Rattle.lists.specs.declared.Fault.the-variants.{Line, Headless, Second, Size, Room, Vertex, Loop, Count, Long}
@@ -23,16 +29,20 @@ use Rattle.lists.specs.declared.Reading.the-variants.{Read, Refused}
 use Rattle.lists.specs.declared.Written.{Written}
 use Rattle.lists.specs.declared.Written.the-variants.{Length, Many, Stray, Itself, OneSided, Full}
 
+-- 10 to 18, by their names in the table
+abbrev pub refusalOf : Fault → Refusal
+refusalOf Line = refusal.Line
+refusalOf Headless = refusal.Headless
+refusalOf Second = refusal.Second
+refusalOf Size = refusal.Size
+refusalOf Vertex = refusal.Vertex
+refusalOf Loop = refusal.Loop
+refusalOf Count = refusal.Count
+refusalOf Room = refusal.Room
+refusalOf Long = refusal.Long
+
 abbrev pub numberOf : Fault → ℕ
-numberOf Line = 10
-numberOf Headless = 11
-numberOf Second = 12
-numberOf Size = 13
-numberOf Vertex = 14
-numberOf Loop = 15
-numberOf Count = 16
-numberOf Room = 17
-numberOf Long = 18
+numberOf f = table.numberOf (refusalOf f)
 
 pub record Numbers : Type 0 where
   pub number : ℕ
@@ -40,28 +50,40 @@ pub record Numbers : Type 0 where
   pub size : ℕ
 
 abbrev pub readNumbers : Reading → Numbers
-readNumbers (Read n) = record { number = 0; place = 0; size = n }
-readNumbers (Refused f k) = record { number = numberOf f; place = k; size = 0 }
+readNumbers (Read n) = record { number = accepted; place = 0; size = n }
+readNumbers (Refused f k) = let t = told (refusalOf f) k in record { number = t .number; place = t .line; size = 0 }
+
+-- a refusal of the rows, or 19, which names none
+abbrev pub atRow : Told → Numbers
+atRow t = record { number = t .number; place = t .row; size = 0 }
 
 abbrev pub writeNumbers : Written → Numbers
-writeNumbers (Length n) = record { number = 0; place = 0; size = n }
-writeNumbers Many = record { number = 1; place = 0; size = 0 }
-writeNumbers (Stray i) = record { number = 2; place = i; size = 0 }
-writeNumbers (Itself i) = record { number = 3; place = i; size = 0 }
-writeNumbers (OneSided i) = record { number = 4; place = i; size = 0 }
-writeNumbers Full = record { number = 19; place = 0; size = 0 }
+writeNumbers (Length n) = record { number = accepted; place = 0; size = n }
+writeNumbers Many = atRow (told refusal.Many 0)
+writeNumbers (Stray i) = atRow (told refusal.Stray i)
+writeNumbers (Itself i) = atRow (told refusal.Itself i)
+writeNumbers (OneSided i) = atRow (told refusal.OneSided i)
+writeNumbers Full = atRow (told refusal.Full 0)
 
-pub record ReadPromise (s old : List ℕ) (a : Reading) (new : List ℕ) : Type 0 where
+pub record ReadPromiseUpTo (most longest : ℕ) (s old : List ℕ) (a : Reading) (new : List ℕ) : Type 0 where
   -- accepted with n, or refused with the first refusal that the text has and its line
-  pub answer : a ≡ readOf s (length old) .answer
+  pub answer : a ≡ readUpTo most longest s (length old) .answer
   -- accepted: the first n rows are the list's, the others as they were; refused: nothing is written
-  pub lent : new ≡ writtenOf (readOf s (length old)) old
+  pub lent : new ≡ writtenOf (readUpTo most longest s (length old)) old
 
-pub record WritePromise (rows old : List ℕ) (a : Written) (new : List ℕ) : Type 0 where
+pub record WritePromiseUpTo (most : ℕ) (rows old : List ℕ) (a : Written) (new : List ℕ) : Type 0 where
   -- 1 to 4: what is wrong with the rows, if anything
   pub verdict : Verdict
-  pub judged : Judged rows verdict
+  pub judged : JudgedUpTo most rows verdict
   -- the text's length, or the first refusal
   pub answer : a ≡ answerOf verdict (textOf rows) (length old)
   -- accepted: the text, and the bytes after it as they were; refused: nothing is written
   pub lent : new ≡ leftOf verdict (textOf rows) old
+
+-- ---- today's limits
+
+abbrev pub ReadPromise : List ℕ → List ℕ → Reading → List ℕ → Type 0
+ReadPromise s old a new = ReadPromiseUpTo mostEntries longestText s old a new
+
+abbrev pub WritePromise : List ℕ → List ℕ → Written → List ℕ → Type 0
+WritePromise rows old a new = WritePromiseUpTo mostEntries rows old a new

@@ -9,7 +9,10 @@
 --   readFrom t room k h g : the lines t, of which the first is line k, where h is known and g are the rows so far
 --   readOf s room     : the text s, read with so many rows lent: n and the rows, or the refusal and its line
 --   writtenOf f old   : what the lent rows hold afterwards: the first n are the list's, the others as they were
+--   mostEntries, longestText : today's limits: 64 entries, and 65,536 bytes of a text
 --
+-- What depends on a limit is stated for lists of up to `most` entries and texts of up to `longest` bytes (`stepUpTo most`, .., `readUpTo most
+-- longest`), a row being a natural number, and is then named for today's limits (`stepOf`, .., `readOf`).
 -- Assumes nothing.
 use Prim.Native.Nat.{ℕ, _+_, _-_, _^_}
 use mathlib.Core.List.{List, _++_}
@@ -30,15 +33,8 @@ use Rattle.lists.specs.declared.Reading.{Reading}
 use Rattle.lists.specs.declared.Reading.the-variants.{Read, Refused}
 use Rattle.lists.specs.declared.Found.{Found}
 
--- no rows: what stands beside a refusal, and what reading starts from
-abbrev pub noRows : List ℕ
-noRows = replicate 64 0
-
 abbrev pub accepted : ℕ → List ℕ → Found
 accepted n g = record { answer = Read n; rows = g }
-
-abbrev pub refused : Fault → ℕ → Found
-refused f k = record { answer = Refused f k; rows = noRows }
 
 -- an end of an edge is from 1 to n
 abbrev pub inside : ℕ → ℕ → Bool
@@ -53,17 +49,6 @@ edgeOf h u v =
     (Stop Vertex))
     (Stop Vertex)
 
--- within a line the order is 10, 11, 12, 13, 17, 14, 15
-abbrev pub stepOf : Head → ℕ → Shape → Step
-stepOf h room Bad = Stop Line
-stepOf h room Comment = Go h
-stepOf h room (P n m) =
-    cond (h .seen) (Stop Second)
-    (cond (leb n 64)
-    (cond (leb n room) (Go (record { seen = true; n = n; m = m; count = 0 })) (Stop Room))
-    (Stop Size))
-stepOf h room (E u v) = cond (h .seen) (edgeOf h u v) (Stop Headless)
-
 abbrev pub mark : List ℕ → ℕ → ℕ → List ℕ
 mark g i j = set g i (bitOr (getD g i 0) (2 ^ j))
 
@@ -71,28 +56,80 @@ mark g i j = set g i (bitOr (getD g i 0) (2 ^ j))
 abbrev pub join : List ℕ → ℕ → ℕ → List ℕ
 join g i j = mark (mark g i j) j i
 
--- at the end of the text: 11, 16
-abbrev pub finish : Head → List ℕ → ℕ → Found
-finish h g k = cond (h .seen) (cond (eqb (h .count) (h .m)) (accepted (h .n) g) (refused Count k)) (refused Headless k)
-
-abbrev pub after : Step → List ℕ → ℕ → (Head → List ℕ → Found) → Found
-after (Stop f) g k next = refused f k
-after (Go h) g k next = next h g
-after (Edge h i j) g k next = next h (join g i j)
-
-abbrev pub readFrom : Text → ℕ → ℕ → Head → List ℕ → Found
-readFrom done room k h g = finish h g k
-readFrom (unended l) room k h g = refused Line k
-readFrom (ended l t) room k h g = after (stepOf h room (shapeOf l)) g k (readFrom t room (k + 1))
-
 -- before the first line
 abbrev pub start : Head
 start = record { seen = false; n = 0; m = 0; count = 0 }
 
-abbrev pub readOf : List ℕ → ℕ → Found
-readOf s room = cond (leb (length s) 65536) (readFrom (linesOf s) room 1 start noRows) (refused Long 0)
+-- ---- up to `most` entries
 
--- what the lent rows hold afterwards
+module _ (most : ℕ) where
+  -- no rows: what stands beside a refusal, and what reading starts from
+  abbrev pub noRowsUpTo : List ℕ
+  noRowsUpTo = replicate most 0
+
+  abbrev pub refusedUpTo : Fault → ℕ → Found
+  refusedUpTo f k = record { answer = Refused f k; rows = noRowsUpTo }
+
+  -- within a line the order is 10, 11, 12, 13, 17, 14, 15
+  abbrev pub stepUpTo : Head → ℕ → Shape → Step
+  stepUpTo h room Bad = Stop Line
+  stepUpTo h room Comment = Go h
+  stepUpTo h room (P n m) =
+      cond (h .seen) (Stop Second)
+      (cond (leb n most)
+      (cond (leb n room) (Go (record { seen = true; n = n; m = m; count = 0 })) (Stop Room))
+      (Stop Size))
+  stepUpTo h room (E u v) = cond (h .seen) (edgeOf h u v) (Stop Headless)
+
+  -- at the end of the text: 11, 16
+  abbrev pub finishUpTo : Head → List ℕ → ℕ → Found
+  finishUpTo h g k = cond (h .seen) (cond (eqb (h .count) (h .m)) (accepted (h .n) g) (refusedUpTo Count k)) (refusedUpTo Headless k)
+
+  abbrev pub afterUpTo : Step → List ℕ → ℕ → (Head → List ℕ → Found) → Found
+  afterUpTo (Stop f) g k next = refusedUpTo f k
+  afterUpTo (Go h) g k next = next h g
+  afterUpTo (Edge h i j) g k next = next h (join g i j)
+
+  abbrev pub readFromUpTo : Text → ℕ → ℕ → Head → List ℕ → Found
+  readFromUpTo done room k h g = finishUpTo h g k
+  readFromUpTo (unended l) room k h g = refusedUpTo Line k
+  readFromUpTo (ended l t) room k h g = afterUpTo (stepUpTo h room (shapeOf l)) g k (readFromUpTo t room (k + 1))
+
+  -- and up to `longest` bytes
+  abbrev pub readUpTo : ℕ → List ℕ → ℕ → Found
+  readUpTo longest s room = cond (leb (length s) longest) (readFromUpTo (linesOf s) room 1 start noRowsUpTo) (refusedUpTo Long 0)
+
+-- ---- today's limits
+
+abbrev pub mostEntries : ℕ
+mostEntries = 64
+
+abbrev pub longestText : ℕ
+longestText = 65536
+
+abbrev pub noRows : List ℕ
+noRows = noRowsUpTo mostEntries
+
+abbrev pub refused : Fault → ℕ → Found
+refused f k = refusedUpTo mostEntries f k
+
+abbrev pub stepOf : Head → ℕ → Shape → Step
+stepOf h room s = stepUpTo mostEntries h room s
+
+abbrev pub finish : Head → List ℕ → ℕ → Found
+finish h g k = finishUpTo mostEntries h g k
+
+abbrev pub after : Step → List ℕ → ℕ → (Head → List ℕ → Found) → Found
+after st g k next = afterUpTo mostEntries st g k next
+
+abbrev pub readFrom : Text → ℕ → ℕ → Head → List ℕ → Found
+readFrom t room k h g = readFromUpTo mostEntries t room k h g
+
+abbrev pub readOf : List ℕ → ℕ → Found
+readOf s room = readUpTo mostEntries longestText s room
+
+-- ---- what the lent rows hold afterwards
+
 abbrev pub written : Reading → List ℕ → List ℕ → List ℕ
 written (Read n) g old = take n g ++ drop n old
 written (Refused f k) g old = old

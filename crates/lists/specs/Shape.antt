@@ -1,12 +1,15 @@
 -- The meaning of a line of a clash text (document 01, "Texts").
 --
---   shapeOf l : "c " and anything; "p edge N M"; "e U V"; or none of these
+--   shapeOf l    : "c " and anything; "p edge N M"; "e U V"; or none of these
+--   shapeAt t k  : the shape of line k of the lines t, counted from 1; there is no line 0
+--   isP s, isE s : s is that of a p line, of an e line
 --
 -- Assumes nothing.
-use Prim.Native.Nat.{ℕ}
+use Prim.Native.Nat.{ℕ, zero, suc}
 use mathlib.Core.List.{List, [], _∷_}
-use mathlib.Core.Bool.{cond}
+use mathlib.Core.Bool.{Bool, true, false, cond}
 use lib.ListN.{drop}
+use Rattle.lines.specs.Text.{Text, lineNo}
 use Rattle.lines.specs.Words.{starts, pairOf}
 use Rattle.lines.specs.declared.Pair.{Pair}
 use Rattle.lines.specs.declared.Pair.the-variants.{Both, Neither}
@@ -37,3 +40,19 @@ shapeOf l =
     (cond (starts pWord l) (asP (pairOf (drop 7 l)))
     (cond (starts eWord l) (asE (pairOf (drop 2 l)))
     Bad))
+
+abbrev pub shapeAt : Text → ℕ → Shape
+shapeAt t zero = Bad
+shapeAt t (suc i) = shapeOf (lineNo t i)
+
+abbrev pub isP : Shape → Bool
+isP (P n m) = true
+isP (E u v) = false
+isP Comment = false
+isP Bad = false
+
+abbrev pub isE : Shape → Bool
+isE (E u v) = true
+isE (P n m) = false
+isE Comment = false
+isE Bad = false

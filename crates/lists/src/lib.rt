@@ -1,5 +1,6 @@
 // Clash texts in the DIMACS colouring format: read into rows, and written from them.
 // Reading gathers the rows aside and lends nothing back before the whole text is judged. One pass over the text.
+use refusals::Refusal;
 ghost use mathlib.Core.Path.{_≡_};
 ghost use mathlib.Core.List.{_++_};
 ghost use Prim.Native.Nat.{_+_, _-_, _≤_, _<_};
@@ -9,7 +10,7 @@ ghost use Rattle.lists.specs.Shape.{shapeOf};
 ghost use Rattle.lists.specs.Read.{edgeOf, stepOf, mark, finish, readOf, refused as refusedAt};
 ghost use Rattle.lists.specs.Edges.{rowEdges, edges};
 ghost use Rattle.lists.specs.Write.{edgesText, textOf};
-ghost use Rattle.lists.specs.Promise.{ReadPromise, WritePromise};
+ghost use Rattle.lists.specs.Promise.{refusalOf, ReadPromise, WritePromise};
 
 // What a line is: "c " and anything; "p edge N M"; "e U V"; or none of these.
 pub enum Shape {
@@ -30,6 +31,23 @@ pub enum Fault {
     Count,
     Room,
     Long,
+}
+
+// Which refusal of document 01's table a fault is.
+pub fn refusal_of(why: Fault) -> Refusal
+    ensures { λ r. ⌜ r ≡ refusalOf why ⌝ }
+{
+    match why {
+        Fault::Line => Refusal::Line,
+        Fault::Headless => Refusal::Headless,
+        Fault::Second => Refusal::Second,
+        Fault::Size => Refusal::Size,
+        Fault::Vertex => Refusal::Vertex,
+        Fault::Loop => Refusal::Loop,
+        Fault::Count => Refusal::Count,
+        Fault::Room => Refusal::Room,
+        Fault::Long => Refusal::Long,
+    }
 }
 
 // Read, with how many entries; or refused, with the line at fault (0 where none is named).

@@ -1,6 +1,7 @@
 // The sheets of divisions, written: "groups K", then each group's size and members. What is written is accepted by the check against
 // every list that it does not clash with (proofs/Calls.antt).
 // The text is composed aside, in a buffer that every sheet fits, and copied whole: nothing is written where it does not fit.
+use refusals::Refusal;
 ghost use mathlib.Core.Path.{_≡_};
 ghost use Prim.Native.Nat.{_+_, _≤_, _<_};
 ghost use lib.ListN.{length, take};
@@ -168,17 +169,17 @@ pub fn numbers_of(answer: Written) -> Numbers
             length: k,
         },
         Written::Many => Numbers {
-            number: 1,
+            number: refusals::number(Refusal::Many),
             index: 0,
             length: 0,
         },
         Written::Colours(i) => Numbers {
-            number: 38,
+            number: refusals::number(Refusal::Colours),
             index: i,
             length: 0,
         },
         Written::Full => Numbers {
-            number: 19,
+            number: refusals::number(Refusal::Full),
             index: 0,
             length: 0,
         },

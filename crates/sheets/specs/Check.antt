@@ -17,6 +17,8 @@
 -- next member has to be above (floor): the member before it in its group, or for a group's first the previous group's first.
 -- `mates` are this group's members so far, `earlier` those of the groups before it, `colours` the group number of each.
 --
+-- What depends on a limit is stated for lists of up to `most` entries and texts of up to `longest` bytes (`finishUpTo most`, .., `checkUpTo most
+-- longest`) and is then named for today's limits (`finish`, .., `checkOf`).
 -- Assumes nothing.
 use Prim.Native.Nat.{ℕ, _+_, _-_}
 use mathlib.Core.List.{List, [], _∷_}
@@ -29,7 +31,7 @@ use Rattle.lines.specs.Text.{Text, done, unended, ended, linesOf}
 use Rattle.lines.specs.Words.{starts, aloneOf}
 use Rattle.lines.specs.declared.Alone.{Alone}
 use Rattle.lines.specs.declared.Alone.the-variants.{Only, Other}
-use Rattle.lists.specs.Read.{inside, readOf}
+use Rattle.lists.specs.Read.{inside, mostEntries, longestText, readUpTo}
 use Rattle.lists.specs.declared.Reading.{Reading}
 use Rattle.lists.specs.declared.Reading.the-variants.{Read, Refused as Unreadable}
 use Rattle.sheets.specs.declared.SheetFault.{SheetFault}
@@ -44,17 +46,17 @@ use Rattle.sheets.specs.declared.Step.the-variants.{Stop, Count, Place}
 -- ---- the answers
 
 -- what stands beside a refusal, and what checking starts from
-abbrev pub noColours : List ℕ
-noColours = replicate 64 0
+abbrev pub noColoursUpTo : ℕ → List ℕ
+noColoursUpTo most = replicate most 0
 
 abbrev pub accepted : ℕ → ℕ → List ℕ → Outcome
 accepted n k c = record { answer = Accepted k; entries = n; colours = c }
 
-abbrev pub without : Checked → Outcome
-without a = record { answer = a; entries = 0; colours = noColours }
+abbrev pub withoutUpTo : ℕ → Checked → Outcome
+withoutUpTo most a = record { answer = a; entries = 0; colours = noColoursUpTo most }
 
-abbrev pub refused : SheetFault → ℕ → Outcome
-refused f k = without (Refused f k)
+abbrev pub refusedUpTo : ℕ → SheetFault → ℕ → Outcome
+refusedUpTo most f k = withoutUpTo most (Refused f k)
 
 -- ---- one line
 
@@ -118,44 +120,79 @@ stepOf n clash p mates earlier l =
 abbrev pub met : Progress → Bool
 met p = cond (p .begun) (cond (leb 1 (p .need)) false (cond (leb 1 (p .left)) false true)) false
 
--- at the end: 35, 36
-abbrev pub finish : ℕ → Progress → (ℕ → Bool) → (ℕ → Bool) → List ℕ → ℕ → Outcome
-finish n p mates earlier colours k =
-    cond (met p)
-    (cond (all n (λ j. earlier j || mates j)) (accepted n (p .opened) colours) (refused Missing k))
-    (refused Ends k)
-
--- a line that is not ended: 37 after the last group, else 30
-abbrev pub cut : Progress → ℕ → Outcome
-cut p k = cond (met p) (refused Extra k) (refused Line k)
-
 abbrev pub none : ℕ → Bool
 none j = false
-
--- after a count the group's members are earlier ones; a member joins its group
-abbrev pub after : Step → ℕ → (ℕ → Bool) → (ℕ → Bool) → List ℕ → (Progress → (ℕ → Bool) → (ℕ → Bool) → List ℕ → Outcome) → Outcome
-after (Stop f) k mates earlier colours next = refused f k
-after (Count p) k mates earlier colours next = next p none (λ j. earlier j || mates j) colours
-after (Place p i g) k mates earlier colours next = next p (λ j. mates j || eqb i j) earlier (set colours i g)
-
-abbrev pub checkFrom : Text → ℕ → (ℕ → ℕ → Bool) → ℕ → Progress → (ℕ → Bool) → (ℕ → Bool) → List ℕ → Outcome
-checkFrom done n clash k p mates earlier colours = finish n p mates earlier colours k
-checkFrom (unended l) n clash k p mates earlier colours = cut p k
-checkFrom (ended l t) n clash k p mates earlier colours =
-    after (stepOf n clash p mates earlier l) k mates earlier colours (checkFrom t n clash (k + 1))
 
 -- before the first line
 abbrev pub start : Progress
 start = record { begun = false; left = 0; need = 0; opened = 0; fresh = false; first = 0; floor = 0 }
 
+module _ (most : ℕ) where
+  -- at the end: 35, 36
+  abbrev pub finishUpTo : ℕ → Progress → (ℕ → Bool) → (ℕ → Bool) → List ℕ → ℕ → Outcome
+  finishUpTo n p mates earlier colours k =
+      cond (met p)
+      (cond (all n (λ j. earlier j || mates j)) (accepted n (p .opened) colours) (refusedUpTo most Missing k))
+      (refusedUpTo most Ends k)
+
+  -- a line that is not ended: 37 after the last group, else 30
+  abbrev pub cutUpTo : Progress → ℕ → Outcome
+  cutUpTo p k = cond (met p) (refusedUpTo most Extra k) (refusedUpTo most Line k)
+
+  -- after a count the group's members are earlier ones; a member joins its group
+  abbrev pub afterUpTo : Step → ℕ → (ℕ → Bool) → (ℕ → Bool) → List ℕ → (Progress → (ℕ → Bool) → (ℕ → Bool) → List ℕ → Outcome) → Outcome
+  afterUpTo (Stop f) k mates earlier colours next = refusedUpTo most f k
+  afterUpTo (Count p) k mates earlier colours next = next p none (λ j. earlier j || mates j) colours
+  afterUpTo (Place p i g) k mates earlier colours next = next p (λ j. mates j || eqb i j) earlier (set colours i g)
+
+  abbrev pub checkFromUpTo : Text → ℕ → (ℕ → ℕ → Bool) → ℕ → Progress → (ℕ → Bool) → (ℕ → Bool) → List ℕ → Outcome
+  checkFromUpTo done n clash k p mates earlier colours = finishUpTo n p mates earlier colours k
+  checkFromUpTo (unended l) n clash k p mates earlier colours = cutUpTo p k
+  checkFromUpTo (ended l t) n clash k p mates earlier colours =
+      afterUpTo (stepOf n clash p mates earlier l) k mates earlier colours (checkFromUpTo t n clash (k + 1))
+
+  module _ (longest : ℕ) where
+    abbrev pub sheetUpTo : ℕ → (ℕ → ℕ → Bool) → List ℕ → Outcome
+    sheetUpTo n clash s =
+        cond (leb (length s) longest) (checkFromUpTo (linesOf s) n clash 1 start none none (noColoursUpTo most)) (refusedUpTo most Long 0)
+
+    -- the list's own refusals, then 5, then the sheet
+    abbrev pub againstUpTo : Reading → List ℕ → List ℕ → ℕ → Outcome
+    againstUpTo (Unreadable f k) rows s room = withoutUpTo most (Unread f k)
+    againstUpTo (Read n) rows s room = cond (leb n room) (sheetUpTo n (matrix rows) s) (withoutUpTo most Short)
+
+    -- with as many rows to read into as a list can have, so that 17 cannot arise
+    abbrev pub checkUpTo : List ℕ → List ℕ → ℕ → Outcome
+    checkUpTo list s room = againstUpTo (readUpTo most longest list most .answer) (readUpTo most longest list most .rows) s room
+
+-- ---- today's limits
+
+abbrev pub noColours : List ℕ
+noColours = noColoursUpTo mostEntries
+
+abbrev pub without : Checked → Outcome
+without a = withoutUpTo mostEntries a
+
+abbrev pub refused : SheetFault → ℕ → Outcome
+refused f k = refusedUpTo mostEntries f k
+
+abbrev pub finish : ℕ → Progress → (ℕ → Bool) → (ℕ → Bool) → List ℕ → ℕ → Outcome
+finish n p mates earlier colours k = finishUpTo mostEntries n p mates earlier colours k
+
+abbrev pub cut : Progress → ℕ → Outcome
+cut p k = cutUpTo mostEntries p k
+
+abbrev pub after : Step → ℕ → (ℕ → Bool) → (ℕ → Bool) → List ℕ → (Progress → (ℕ → Bool) → (ℕ → Bool) → List ℕ → Outcome) → Outcome
+after st k mates earlier colours next = afterUpTo mostEntries st k mates earlier colours next
+
+abbrev pub checkFrom : Text → ℕ → (ℕ → ℕ → Bool) → ℕ → Progress → (ℕ → Bool) → (ℕ → Bool) → List ℕ → Outcome
+checkFrom t n clash k p mates earlier colours = checkFromUpTo mostEntries t n clash k p mates earlier colours
+
 abbrev pub sheetOf : ℕ → (ℕ → ℕ → Bool) → List ℕ → Outcome
-sheetOf n clash s = cond (leb (length s) 65536) (checkFrom (linesOf s) n clash 1 start none none noColours) (refused Long 0)
+sheetOf n clash s = sheetUpTo mostEntries longestText n clash s
 
--- the list's own refusals, then 5, then the sheet
 abbrev pub against : Reading → List ℕ → List ℕ → ℕ → Outcome
-against (Unreadable f k) rows s room = without (Unread f k)
-against (Read n) rows s room = cond (leb n room) (sheetOf n (matrix rows) s) (without Short)
+against a rows s room = againstUpTo mostEntries longestText a rows s room
 
--- with 64 rows to read into, so that 17 cannot arise
 abbrev pub checkOf : List ℕ → List ℕ → ℕ → Outcome
-checkOf list s room = against (readOf list 64 .answer) (readOf list 64 .rows) s room
+checkOf list s room = checkUpTo mostEntries longestText list s room

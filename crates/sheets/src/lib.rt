@@ -1,5 +1,6 @@
 // Sitting sheets: checked against a clash list, with the line at fault shown as a part of the text that holds it.
 // A check gathers the group numbers aside and lends nothing back before both texts are judged. One pass over each text.
+use refusals::Refusal;
 ghost use mathlib.Core.Path.{_≡_};
 ghost use mathlib.Core.List.{_++_};
 ghost use Prim.Native.Nat.{_≤_, _<_};
@@ -8,8 +9,7 @@ ghost use Rattle.sets.specs.Set.{has as member};
 ghost use Rattle.clashes.specs.Matrix.{matrix};
 ghost use Rattle.sheets.specs.Check.{behindOf, groupsOf, sizeOf, placed, memberOf, stepOf, met as metOf, cut, finish, sheetOf, checkOf, without as withoutAny, refused as refusedAt};
 ghost use Rattle.sheets.specs.Sound.{Sound, Within};
-ghost use Rattle.lists.specs.Promise.{numberOf as listNumberOf};
-ghost use Rattle.sheets.specs.Promise.{numberOf, numbersOf, CheckPromise, ShownOf, PreviewPromise};
+ghost use Rattle.sheets.specs.Promise.{refusalOf, refusedIn, numbersOf, CheckPromise, ShownOf, PreviewPromise};
 ghost use Rattle.sheets.specs.Place.{partAt, PlacePromise};
 
 // Document 01's refusals of a sheet, 18 and 30 to 37, by their names.
@@ -41,7 +41,7 @@ pub struct Outcome {
     pub colours: [u8; 64],
 }
 
-// Document 01's numbers of an answer; those that it does not name are 0. Which text is at fault: 1 the list, 2 the sheet.
+// Document 01's numbers of an answer; those that it does not name are 0. `text` says which text is at fault.
 pub struct Numbers {
     pub number: usize,
     pub line: usize,
@@ -76,6 +76,13 @@ pub enum Step {
 
 // The longest sheet that is checked.
 const LONGEST: usize = 65536;
+
+// Which text is at fault: neither, the list, or the sheet.
+const NEITHER: usize = 0;
+
+const LIST: usize = 1;
+
+const SHEET: usize = 2;
 
 // The number behind the word `w`, where the two are the whole line.
 fn behind(s: &[u8], w: &[u8]) -> lines::Alone
@@ -359,37 +366,32 @@ pub fn check_sheet(list: &[u8], sheet: &[u8], colours: &mut [u8]) -> Checked
     found.answer
 }
 
-// Document 01's number of a fault of the list.
-fn list_number(why: lists::Fault) -> usize
-    ensures { λ r. ⌜ r ≡ listNumberOf why ⌝ }
+// Which refusal of document 01's table a fault of the sheet is.
+pub fn refusal_of(why: SheetFault) -> Refusal
+    ensures { λ r. ⌜ r ≡ refusalOf why ⌝ }
 {
     match why {
-        lists::Fault::Line => 10,
-        lists::Fault::Headless => 11,
-        lists::Fault::Second => 12,
-        lists::Fault::Size => 13,
-        lists::Fault::Vertex => 14,
-        lists::Fault::Loop => 15,
-        lists::Fault::Count => 16,
-        lists::Fault::Room => 17,
-        lists::Fault::Long => 18,
+        SheetFault::Long => Refusal::Long,
+        SheetFault::Line => Refusal::SheetLine,
+        SheetFault::Member => Refusal::Member,
+        SheetFault::Order => Refusal::Order,
+        SheetFault::Twice => Refusal::Twice,
+        SheetFault::Clash => Refusal::Clash,
+        SheetFault::Ends => Refusal::Ends,
+        SheetFault::Missing => Refusal::Missing,
+        SheetFault::Extra => Refusal::Extra,
     }
 }
 
-// Document 01's number of a fault of the sheet.
-fn sheet_number(why: SheetFault) -> usize
-    ensures { λ r. ⌜ r ≡ numberOf why ⌝ }
+// The numbers of a refusal of this text, with its line where the table names one.
+fn refused_in(text: usize, why: Refusal, line: usize) -> Numbers
+    ensures { λ r. ⌜ r ≡ refusedIn text why line ⌝ }
 {
-    match why {
-        SheetFault::Long => 18,
-        SheetFault::Line => 30,
-        SheetFault::Member => 31,
-        SheetFault::Order => 32,
-        SheetFault::Twice => 33,
-        SheetFault::Clash => 34,
-        SheetFault::Ends => 35,
-        SheetFault::Missing => 36,
-        SheetFault::Extra => 37,
+    Numbers {
+        number: refusals::number(why),
+        line: refusals::line(why, line),
+        groups: 0,
+        text,
     }
 }
 
@@ -402,26 +404,11 @@ pub fn numbers_of(answer: Checked) -> Numbers
             number: 0,
             line: 0,
             groups: k,
-            text: 0,
+            text: NEITHER,
         },
-        Checked::Unread(why, line) => Numbers {
-            number: list_number(why),
-            line,
-            groups: 0,
-            text: 1,
-        },
-        Checked::Short => Numbers {
-            number: 5,
-            line: 0,
-            groups: 0,
-            text: 2,
-        },
-        Checked::Refused(why, line) => Numbers {
-            number: sheet_number(why),
-            line,
-            groups: 0,
-            text: 2,
-        },
+        Checked::Unread(why, line) => refused_in(LIST, lists::refusal_of(why), line),
+        Checked::Short => refused_in(SHEET, Refusal::Short, 0),
+        Checked::Refused(why, line) => refused_in(SHEET, refusal_of(why), line),
     }
 }
 
@@ -442,7 +429,7 @@ pub fn fault_line<'a>(list: &'a [u8], sheet: &'a [u8], room: usize) -> &'a [u8]
     let found = check(list, sheet, room);
     let answer = found.answer;
     let m = numbers_of(answer);
-    if m.text == 1 {
+    if m.text == LIST {
         return shown(list, m.line);
     }
     shown(sheet, m.line)
@@ -475,7 +462,7 @@ pub fn fault_part(list: &[u8], sheet: &[u8], room: usize) -> Part
     let found = check(list, sheet, room);
     let answer = found.answer;
     let m = numbers_of(answer);
-    if m.text == 1 {
+    if m.text == LIST {
         return part_at(m.text, list, m.line);
     }
     part_at(m.text, sheet, m.line)

@@ -32,19 +32,19 @@ pub validity-unique : (rows : List ℕ) (a b : Verdict) → Judged rows a → Ju
 validity-unique = judged-unique
 
 pub clique-unique : (rows : List ℕ) (a b : Bound) → Answers cliqueBound rows a → Answers cliqueBound rows b → a ≡ b
-clique-unique = answers-unique cliqueBound
+clique-unique = answers-unique 64 cliqueBound
 
 pub mycielskian-unique : (rows : List ℕ) (a b : Bound) → Answers mycielskian rows a → Answers mycielskian rows b → a ≡ b
-mycielskian-unique = answers-unique mycielskian
+mycielskian-unique = answers-unique 64 mycielskian
 
 pub fewest-unique : (rows before : List ℕ) (budget : ℕ) (a b : Answer) (after other : List ℕ)
     → Promised (boundedWalk mycielskian) rows before budget a after → Promised (boundedWalk mycielskian) rows before budget b other
     → (a ≡ b) × (after ≡ other)
-fewest-unique = promised-unique (boundedWalk mycielskian)
+fewest-unique = promised-unique 64 (boundedWalk mycielskian)
 
 pub plain-unique : (rows before : List ℕ) (budget : ℕ) (a b : Answer) (after other : List ℕ) → Promised plainWalk rows before budget a after
     → Promised plainWalk rows before budget b other → (a ≡ b) × (after ≡ other)
-plain-unique = promised-unique plainWalk
+plain-unique = promised-unique 64 plainWalk
 
 pub read-list-unique : (text old : List ℕ) (a b : Reading) (new other : List ℕ) → ReadPromise text old a new → ReadPromise text old b other
     → (a ≡ b) × (new ≡ other)

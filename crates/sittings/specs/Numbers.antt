@@ -11,7 +11,7 @@
 --   partNumbers    : of the place of the line at fault
 --
 -- Assumes nothing.
-use Rattle.clashes.specs.Matrix.{numberOf, rowOf}
+use Rattle.clashes.specs.Matrix.{numbers}
 use Rattle.clashes.specs.declared.Verdict.{Verdict}
 use Rattle.bounds.specs.Lent.{verdictOf, valueOf}
 use Rattle.bounds.specs.declared.Bound.{Bound}
@@ -34,10 +34,10 @@ use Rattle.sittings.specs.declared.numbers.CheckNumbers.{CheckNumbers}
 use Rattle.sittings.specs.declared.numbers.PartNumbers.{PartNumbers}
 
 abbrev pub verdictNumbers : Verdict → VerdictNumbers
-verdictNumbers v = record { refusal = numberOf v; row = rowOf v }
+verdictNumbers v = record { refusal = numbers v .number; row = numbers v .row }
 
 abbrev pub boundNumbers : Bound → BoundNumbers
-boundNumbers b = record { refusal = numberOf (verdictOf b); row = rowOf (verdictOf b); bound = valueOf b }
+boundNumbers b = record { refusal = numbers (verdictOf b) .number; row = numbers (verdictOf b) .row; bound = valueOf b }
 
 abbrev pub walkNumbers : Answer → WalkNumbers
 walkNumbers a = record {

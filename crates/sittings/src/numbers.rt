@@ -1,12 +1,14 @@
 // Document 01's numbers of each answer, for callers that go by numbers: other languages, and the program.
 use bounds::Bound;
 use clashes::Verdict;
-use lists::Fault;
 use lists::Reading;
+use lists::refusal_of;
+use refusals::Refusal;
+use refusals::line;
+use refusals::number;
 use sheets::Checked;
 use walk::Answer;
 ghost use mathlib.Core.Path.{_≡_};
-ghost use Rattle.lists.specs.Promise.{numberOf as faultNumber};
 ghost use Rattle.sittings.specs.Numbers.{verdictNumbers, boundNumbers, walkNumbers, readNumbers, listNumbers, sheetNumbers, checkNumbers, partNumbers};
 
 #[repr(C)]
@@ -68,10 +70,22 @@ pub fn of_verdict(v: Verdict) -> VerdictNumbers
 {
     match v {
         Verdict::Valid => VerdictNumbers { refusal: 0, row: 0 },
-        Verdict::Many => VerdictNumbers { refusal: 1, row: 0 },
-        Verdict::Stray(row) => VerdictNumbers { refusal: 2, row },
-        Verdict::Itself(row) => VerdictNumbers { refusal: 3, row },
-        Verdict::OneSided(row) => VerdictNumbers { refusal: 4, row },
+        Verdict::Many => VerdictNumbers {
+            refusal: number(Refusal::Many),
+            row: 0,
+        },
+        Verdict::Stray(row) => VerdictNumbers {
+            refusal: number(Refusal::Stray),
+            row,
+        },
+        Verdict::Itself(row) => VerdictNumbers {
+            refusal: number(Refusal::Itself),
+            row,
+        },
+        Verdict::OneSided(row) => VerdictNumbers {
+            refusal: number(Refusal::OneSided),
+            row,
+        },
     }
 }
 
@@ -85,22 +99,22 @@ pub fn of_bound(b: Bound) -> BoundNumbers
             bound,
         },
         Bound::Many => BoundNumbers {
-            refusal: 1,
+            refusal: number(Refusal::Many),
             row: 0,
             bound: 0,
         },
         Bound::Stray(row) => BoundNumbers {
-            refusal: 2,
+            refusal: number(Refusal::Stray),
             row,
             bound: 0,
         },
         Bound::Itself(row) => BoundNumbers {
-            refusal: 3,
+            refusal: number(Refusal::Itself),
             row,
             bound: 0,
         },
         Bound::OneSided(row) => BoundNumbers {
-            refusal: 4,
+            refusal: number(Refusal::OneSided),
             row,
             bound: 0,
         },
@@ -119,70 +133,54 @@ pub fn of_walk(a: Answer) -> WalkNumbers
             leaves,
         },
         Answer::Many => WalkNumbers {
-            refusal: 1,
+            refusal: number(Refusal::Many),
             row: 0,
             k: 0,
             nodes: 0,
             leaves: 0,
         },
         Answer::Stray(row) => WalkNumbers {
-            refusal: 2,
+            refusal: number(Refusal::Stray),
             row,
             k: 0,
             nodes: 0,
             leaves: 0,
         },
         Answer::Itself(row) => WalkNumbers {
-            refusal: 3,
+            refusal: number(Refusal::Itself),
             row,
             k: 0,
             nodes: 0,
             leaves: 0,
         },
         Answer::OneSided(row) => WalkNumbers {
-            refusal: 4,
+            refusal: number(Refusal::OneSided),
             row,
             k: 0,
             nodes: 0,
             leaves: 0,
         },
         Answer::Short => WalkNumbers {
-            refusal: 5,
+            refusal: number(Refusal::Short),
             row: 0,
             k: 0,
             nodes: 0,
             leaves: 0,
         },
         Answer::Budget(nodes) => WalkNumbers {
-            refusal: 6,
+            refusal: number(Refusal::Budget),
             row: 0,
             k: 0,
             nodes,
             leaves: 0,
         },
         Answer::Deep => WalkNumbers {
-            refusal: 7,
+            refusal: number(Refusal::Deep),
             row: 0,
             k: 0,
             nodes: 0,
             leaves: 0,
         },
-    }
-}
-
-fn of_fault(why: Fault) -> usize
-    ensures { λ r. ⌜ r ≡ faultNumber why ⌝ }
-{
-    match why {
-        Fault::Line => 10,
-        Fault::Headless => 11,
-        Fault::Second => 12,
-        Fault::Size => 13,
-        Fault::Vertex => 14,
-        Fault::Loop => 15,
-        Fault::Count => 16,
-        Fault::Room => 17,
-        Fault::Long => 18,
     }
 }
 
@@ -195,11 +193,14 @@ pub fn of_reading(a: Reading) -> ReadNumbers
             line: 0,
             entries,
         },
-        Reading::Refused(why, line) => ReadNumbers {
-            refusal: of_fault(why),
-            line,
-            entries: 0,
-        },
+        Reading::Refused(why, at) => {
+            let r = refusal_of(why);
+            ReadNumbers {
+                refusal: number(r),
+                line: line(r, at),
+                entries: 0,
+            }
+        }
     }
 }
 
@@ -213,27 +214,27 @@ pub fn of_list(a: lists::Written) -> WriteNumbers
             length,
         },
         lists::Written::Many => WriteNumbers {
-            refusal: 1,
+            refusal: number(Refusal::Many),
             place: 0,
             length: 0,
         },
         lists::Written::Stray(place) => WriteNumbers {
-            refusal: 2,
+            refusal: number(Refusal::Stray),
             place,
             length: 0,
         },
         lists::Written::Itself(place) => WriteNumbers {
-            refusal: 3,
+            refusal: number(Refusal::Itself),
             place,
             length: 0,
         },
         lists::Written::OneSided(place) => WriteNumbers {
-            refusal: 4,
+            refusal: number(Refusal::OneSided),
             place,
             length: 0,
         },
         lists::Written::Full => WriteNumbers {
-            refusal: 19,
+            refusal: number(Refusal::Full),
             place: 0,
             length: 0,
         },

@@ -22,7 +22,7 @@ ghost use Rattle.zykov.specs.Tree.{below};
 ghost use Rattle.zykov.specs.Walk.{become, compare, bounded, plain as plainRule, boundedWalk, plainWalk};
 ghost use Rattle.zykov.specs.Budget.{within, onward};
 ghost use Rattle.walk.specs.Going.{Starts, Ready, ReadyAt, Comes, counted as countedOf, stateOf, Found};
-ghost use Rattle.walk.specs.Promise.{Promised, Gated, Told};
+ghost use Rattle.walk.specs.Promise.{Promised, Gated, Told, writtenOf};
 
 // The answer of a walk: accepted, with the fewest groups, the nodes entered and the plain walk's complete graphs; or refused, with the row at
 // fault or the nodes entered.
@@ -117,7 +117,7 @@ fn enter(n: usize, live: u64, rows: &mut [u64; 64], names: &[u8; 64], s: State) 
         return entered;
     }
     if reaches(live, rows, entered.k) {
-        return entered;
+        return entered; // a node that is cut off is counted
     }
     let c = choose_among(live, rows);
     match c {
@@ -236,19 +236,30 @@ fn admitted(rows: &[u64], room: usize) -> Gate
     }
 }
 
+// How many colours a walk that came to s writes: none where the budget is spent.
+fn written(n: usize, s: State) -> usize
+    ensures { λ r. ⌜ r ≡ writtenOf n s ⌝ }
+{
+    if s.out {
+        return 0;
+    }
+    n
+}
+
 // The answer of a walk that came to s. Where it is accepted the colours are written.
 fn told(n: usize, s: State, colours: &mut [u8]) -> Answer
     requires { ⌜ (n ≤ 64) × (n ≤ length (now colours)) ⌝ }
     ensures { λ r. ⌜ Told n s (now (colours .entry)) r (now (colours .exit)) ⌝ }
 {
-    if s.out {
-        return Answer::Budget(s.budget);
-    }
+    let m = written(n, s);
     let best = s.best;
     let mut i: usize = 0;
-    while i < n {
+    while i < m {
         colours[i] = best[i];
         i += 1;
+    }
+    if s.out {
+        return Answer::Budget(s.budget);
     }
     Answer::Accepted(s.k, s.nodes, s.leaves)
 }

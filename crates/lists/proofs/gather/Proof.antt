@@ -5,7 +5,7 @@ use mathlib.Core.Logic.{⊎-elim}
 use lib.ListN.{length, take, drop}
 use Rattle.lines.specs.Text.{linesOf}
 use Rattle.lists.specs.Shape.{shapeOf}
-use Rattle.lists.specs.Read.{noRows, readFrom, start, stepOf}
+use Rattle.lists.specs.Read.{mostEntries, longestText, noRows, readFrom, start, stepOf}
 use Rattle.lists.proofs.Fold.{read-halts, read-ends, read-short, read-long, turn, Turned, ends-below, turned-go, turned-edge}
 use borrow.Author.Needs.{needs}
 use native.Mathlib.Omega.{arith}
@@ -13,7 +13,9 @@ use Rattle.lists.proofs.gather.Statement.{statement}
 use Rattle.lists.proofs.gather.Tie as tie
 
 abbrev Inv-loop : tie.InvT-loop
-Inv-loop text room rows₀ h₀ at₀ line₀ rows h at line = (at ≤ length text) × (length text ≤ 65536) × (line ≤ at + 1) × (h .count ≤ at) × (h .n ≤ 64) × (length rows ≡ 64) × (readFrom (linesOf (drop at text)) room line h rows ≡ readFrom (linesOf text) room 1 start noRows)
+Inv-loop text room rows₀ h₀ at₀ line₀ rows h at line =
+    (at ≤ length text) × (length text ≤ longestText) × (line ≤ at + 1) × (h .count ≤ at) × (h .n ≤ mostEntries) × (length rows ≡ mostEntries)
+    × (readFrom (linesOf (drop at text)) room line h rows ≡ readFrom (linesOf text) room 1 start noRows)
 
 abbrev μ-loop : tie.MeasureT-loop
 μ-loop text room rows₀ h₀ at₀ line₀ rows h at line = length text - at
@@ -33,16 +35,16 @@ turned : (c : tie.At-match-came Inv-loop μ-loop) →
     let b = c .before .before .before .before .before .before .before in
     let a = b .before .before .before .args in
     let e = c .before .before .before .before .before .line-end in
-    Turned (a .text .now) (a .room) (b .loop .at) (e .result) (b .loop .line) (b .loop .h) (b .loop .rows) (e .ensures .0) (closed (c .before .before .before .before)) (c .match .h) (c .match .rows)
+    Turned mostEntries (a .text .now) (a .room) (b .loop .at) (e .result) (b .loop .line) (b .loop .h) (b .loop .rows) (e .ensures .0) (closed (c .before .before .before .before)) (c .match .h) (c .match .rows)
 turned c =
     let b = c .before .before .before .before .before .before .before in
     let a = b .before .before .before .args in
     let e = c .before .before .before .before .before .line-end in
     let l = closed (c .before .before .before .before) in
     ⊎-elim
-    (λ w. turned-go (a .text .now) (a .room) (b .loop .at) (e .result) (b .loop .line) (b .loop .h) (b .loop .rows) (e .ensures .0) l (b .loop .inv .5) (b .loop .inv .4)
+    (λ w. turned-go mostEntries (a .text .now) (a .room) (b .loop .at) (e .result) (b .loop .line) (b .loop .h) (b .loop .rows) (e .ensures .0) l (b .loop .inv .5) (b .loop .inv .4)
     (w .1 .given .0 .0) (stepped (c .before) ∙ w .1 .given .1) _ _ (w .3) (w .4))
-    (λ w. turned-edge (a .text .now) (a .room) (b .loop .at) (e .result) (b .loop .line) (b .loop .h) (b .loop .rows) (e .ensures .0) l (b .loop .inv .5) (b .loop .inv .4)
+    (λ w. turned-edge mostEntries (a .text .now) (a .room) (b .loop .at) (e .result) (b .loop .line) (b .loop .h) (b .loop .rows) (e .ensures .0) l (b .loop .inv .5) (b .loop .inv .4)
     (w .1 .given .0 .0) (w .1 .given .0 .1 .0) (w .1 .given .0 .1 .1 .0) (stepped (c .before) ∙ w .1 .given .1) _ _ _ _ (w .4 .ensures) (w .6 .ensures) (w .7) (w .8))
     (c .match .came)
 
@@ -50,7 +52,7 @@ refused-requires : tie.Need-refused-requires Inv-loop μ-loop
 refused-requires c κs = search needs
 
 returns : tie.Need-returns Inv-loop μ-loop
-returns c = c .refused .ensures ∙ sym (read-long (c .before .before .before .args .text .now) (c .before .before .before .args .room) (c .before .if1 .taken))
+returns c = c .refused .ensures ∙ sym (read-long mostEntries longestText (c .before .before .before .args .text .now) (c .before .before .before .args .room) (c .before .if1 .taken))
 
 loop-holds : tie.Need-loop-holds Inv-loop μ-loop
 loop-holds c = (omega arith, omega arith, omega arith, omega arith, omega arith, refl, refl)
@@ -65,7 +67,8 @@ returns-2 : tie.Need-returns-2 Inv-loop μ-loop
 returns-2 c =
     let b = c .before .before .before .before .loop in
     let s = c .before .before .before .before .before .before .before .args .text .now in
-    c .refused2 .ensures ∙ sym (read-halts s _ (b .at) _ _ (b .h) (b .rows) (c .before .before .line-end .ensures .0) (c .before .before .before .loop-test .taken) (c .before .if2 .taken)) ∙ b .inv .6 ∙ read-short s _ (b .inv .1)
+    c .refused2 .ensures ∙ sym (read-halts mostEntries s _ (b .at) _ _ (b .h) (b .rows) (c .before .before .line-end .ensures .0)
+    (c .before .before .before .loop-test .taken) (c .before .if2 .taken)) ∙ b .inv .6 ∙ read-short mostEntries longestText s _ (b .inv .1)
 
 sub-shape-of : tie.Need-sub-shape-of Inv-loop μ-loop
 sub-shape-of c = search needs
@@ -92,7 +95,9 @@ returns-3 : tie.Need-returns-3 Inv-loop μ-loop
 returns-3 c =
     let b = c .before .before .before .before .before .before .before .before .before .before .loop in
     let s = c .before .before .before .before .before .before .before .before .before .before .before .before .before .args .text .now in
-    c .refused3 .ensures ∙ sym (turn s _ (b .at) _ _ (b .h) (b .rows) (c .before .before .before .before .before .before .before .before .line-end .ensures .0) (closed (c .before .before .before .before .before .before .before)) _ (stepped (c .before .before .before .before) ∙ c .before .before .why .given .1)) ∙ b .inv .6 ∙ read-short s _ (b .inv .1)
+    c .refused3 .ensures ∙ sym (turn mostEntries s _ (b .at) _ _ (b .h) (b .rows)
+    (c .before .before .before .before .before .before .before .before .line-end .ensures .0) (closed (c .before .before .before .before .before .before .before)) _
+    (stepped (c .before .before .before .before) ∙ c .before .before .why .given .1)) ∙ b .inv .6 ∙ read-short mostEntries longestText s _ (b .inv .1)
 
 enum-known-g : tie.Need-enum-known-g Inv-loop μ-loop
 enum-known-g c = search needs
@@ -103,12 +108,19 @@ enum-known-g-2 c = search needs
 set-bit-requires : tie.Need-set-bit-requires Inv-loop μ-loop
 set-bit-requires c κs =
     let b = c .before .before .before .before .before .before .before .before .before .before .loop in
-    ends-below (c .before .before .before .before .before .before .before .before .before .before .before .before .before .args .text .now) _ (b .at) _ (b .line) (b .h) (b .rows) (c .before .before .before .before .before .before .before .before .line-end .ensures .0) (closed (c .before .before .before .before .before .before .before)) (b .inv .5) (b .inv .4) _ _ _ (stepped (c .before .before .before .before) ∙ c .before .before .g2 .given .1)
+    ends-below mostEntries (c .before .before .before .before .before .before .before .before .before .before .before .before .before .args .text .now) _ (b .at) _
+    (b .line) (b .h) (b .rows) (c .before .before .before .before .before .before .before .before .line-end .ensures .0)
+    (closed (c .before .before .before .before .before .before .before)) (b .inv .5) (b .inv .4) _ _ _
+    (stepped (c .before .before .before .before) ∙ c .before .before .g2 .given .1)
 
 set-bit-requires-2 : tie.Need-set-bit-requires-2 Inv-loop μ-loop
 set-bit-requires-2 c κs =
     let b = c .before .before .before .before .before .before .before .before .before .before .before .before .loop in
-    let w = ends-below (c .before .before .before .before .before .before .before .before .before .before .before .before .before .before .before .args .text .now) _ (b .at) _ (b .line) (b .h) (b .rows) (c .before .before .before .before .before .before .before .before .before .before .line-end .ensures .0) (closed (c .before .before .before .before .before .before .before .before .before)) (b .inv .5) (b .inv .4) _ _ _ (stepped (c .before .before .before .before .before .before) ∙ c .before .before .before .before .g2 .given .1) in
+    let w = ends-below mostEntries
+    (c .before .before .before .before .before .before .before .before .before .before .before .before .before .before .before .args .text .now) _ (b .at) _ (b .line)
+    (b .h) (b .rows) (c .before .before .before .before .before .before .before .before .before .before .line-end .ensures .0)
+    (closed (c .before .before .before .before .before .before .before .before .before)) (b .inv .5) (b .inv .4) _ _ _
+    (stepped (c .before .before .before .before .before .before) ∙ c .before .before .before .before .g2 .given .1) in
     (w .1, w .0)
 
 add-at : tie.Need-add-at Inv-loop μ-loop
@@ -133,7 +145,7 @@ returns-4 : tie.Need-returns-4 Inv-loop μ-loop
 returns-4 c =
     let b = c .before .before .loop in
     let s = c .before .before .before .before .before .args .text .now in
-    c .ended .ensures ∙ sym (read-ends s _ (b .at) _ (b .h) (b .rows) (c .before .loop-test .left)) ∙ b .inv .6 ∙ read-short s _ (b .inv .1)
+    c .ended .ensures ∙ sym (read-ends mostEntries s _ (b .at) _ (b .h) (b .rows) (c .before .loop-test .left)) ∙ b .inv .6 ∙ read-short mostEntries longestText s _ (b .inv .1)
 
 pub gather-spec : {M : Type 1} → statement M
 gather-spec =

@@ -3,6 +3,7 @@ use Prim.Native.Nat.{ℕ}
 use mathlib.Core.Path.{_≡_, sym, ap, _∙_}
 use mathlib.Core.Logic.{⊎-elim}
 use lib.ListN.{length}
+use Rattle.lists.specs.Read.{mostEntries, longestText}
 use Rattle.lists.proofs.Answers.{stored, stored-fits, stored-promise}
 use borrow.Author.Needs.{needs}
 use native.Mathlib.Omega.{arith}
@@ -28,7 +29,7 @@ slice-aggregate-copy-rows c = search needs
 copy-rows-requires : tie.Need-copy-rows-requires
 copy-rows-requires c κs =
     let a = c .before .before .before .before .before .before .before .args in
-    let b = stored-fits (a .text .now) (a .rows .now) _ (c .before .before .before .before .gather .ensures) _ (counted (c .before .before .before) .0) in
+    let b = stored-fits mostEntries longestText (a .text .now) (a .rows .now) _ (c .before .before .before .before .gather .ensures) _ (counted (c .before .before .before) .0) in
     let z : length (c .before .before .before .before .gather .result .rows) ≡ 64 = search needs in
     (omega arith, b .1)
 
@@ -38,7 +39,9 @@ same-length c = search needs
 returns : tie.Need-returns
 returns c =
     let a = c .before .before .before .before .before .before .before .before .before .before .args in
-    stored-promise (a .text .now) (a .rows .now) _ (c .before .before .before .before .before .before .before .gather .ensures) _ (counted (c .before .before .before .before .before .before) .0) _ _ (counted (c .before .before .before .before .before .before) .1) (c .before .before .copy-rows .ensures)
+    stored-promise mostEntries longestText (a .text .now) (a .rows .now) _ (c .before .before .before .before .before .before .before .gather .ensures) _
+    (counted (c .before .before .before .before .before .before) .0) _ _ (counted (c .before .before .before .before .before .before) .1)
+    (c .before .before .copy-rows .ensures)
 
 pub read-list-spec : {M : Type 1} → statement M
 read-list-spec =

@@ -9,29 +9,38 @@ enum-known-answer c = search needs
 enum-known-answer-2 : tie.Need-enum-known-answer-2
 enum-known-answer-2 c = search needs
 
-list-number-requires : tie.Need-list-number-requires
-list-number-requires c κs = search needs
+refusal-of-requires : tie.Need-refusal-of-requires
+refusal-of-requires c κs = search needs
+
+refused-in-requires : tie.Need-refused-in-requires
+refused-in-requires c κs = search needs
 
 enum-told : tie.Need-enum-told
 enum-told c = search needs
 
+refused-in-requires-2 : tie.Need-refused-in-requires-2
+refused-in-requires-2 c κs = search needs
+
 enum-known-answer-3 : tie.Need-enum-known-answer-3
 enum-known-answer-3 c = search needs
 
-sheet-number-requires : tie.Need-sheet-number-requires
-sheet-number-requires c κs = search needs
+refusal-of-requires-2 : tie.Need-refusal-of-requires-2
+refusal-of-requires-2 c κs = search needs
+
+refused-in-requires-3 : tie.Need-refused-in-requires-3
+refused-in-requires-3 c κs = search needs
 
 returns : tie.Need-returns
 returns c = simp (c .before .answer .given .1)
 
 returns-2 : tie.Need-returns-2
-returns-2 c = simp (c .before .before .answer2 .given .1, c .list-number .ensures)
+returns-2 c = simp (c .before .before .before .answer2 .given .1, c .refused-in .ensures, c .before .refusal-of .ensures)
 
 returns-3 : tie.Need-returns-3
-returns-3 c = simp (c .enum-told .given .1)
+returns-3 c = simp (c .before .enum-told .given .1, c .refused-in2 .ensures)
 
 returns-4 : tie.Need-returns-4
-returns-4 c = simp (c .before .before .answer3 .given .1, c .sheet-number .ensures)
+returns-4 c = simp (c .before .before .before .answer3 .given .1, c .refused-in3 .ensures, c .before .refusal-of2 .ensures)
 
 pub numbers-of-spec : {M : Type 1} → statement M
 numbers-of-spec =
@@ -39,10 +48,13 @@ numbers-of-spec =
     (tie.spec
     enum-known-answer
     enum-known-answer-2
-    list-number-requires
+    refusal-of-requires
+    refused-in-requires
     enum-told
+    refused-in-requires-2
     enum-known-answer-3
-    sheet-number-requires
+    refusal-of-requires-2
+    refused-in-requires-3
     returns
     returns-2
     returns-3

@@ -43,7 +43,7 @@ returns : tie.Need-returns
 returns c =
     let d = c .before .before .before in
     let a = d .before .before .before .args in
-    promised-refused (boundedWalk mycielskian) (a .rows .now) (a .colours .now) (a .budget) (c .before .g .given .0 .0)
+    promised-refused 64 (boundedWalk mycielskian) (a .rows .now) (a .colours .now) (a .budget) (c .before .g .given .0 .0)
     (subst (Gated (a .rows .now) (length (a .colours .now))) (c .before .g .given .1) (d .admitted .ensures))
 
 same-length : tie.Need-same-length
@@ -56,7 +56,7 @@ returns-2 c =
     let s = e .before in
     let r = s .before .before .before .before .before in
     let a = r .before .before .before .before .before .before .args in
-    promised-told (λ n. bounded n mycielskian) (boundedWalk mycielskian) bounded-answers (a .rows .now) (a .colours .now) (a .budget) (opened (r .before)) _ (root-parts _ _ (r .root .ensures))
+    promised-told 64 (λ n. bounded n mycielskian) (boundedWalk mycielskian) bounded-answers (a .rows .now) (a .colours .now) (a .budget) (opened (r .before)) _ (root-parts _ _ (r .root .ensures))
     (s .start .result) (e .enter .result) (s .start .ensures) (e .enter .ensures) _ _ (t .told .ensures)
 
 pub fewest-spec : {M : Type 1} → statement M

@@ -42,7 +42,7 @@ returns : tie.Need-returns
 returns c =
     let d = c .before .before .before in
     let a = d .before .before .before .args in
-    promised-refused plainWalk (a .rows .now) (a .colours .now) (a .budget) (c .before .g .given .0 .0)
+    promised-refused 64 plainWalk (a .rows .now) (a .colours .now) (a .budget) (c .before .g .given .0 .0)
     (subst (Gated (a .rows .now) (length (a .colours .now))) (c .before .g .given .1) (d .admitted .ensures))
 
 same-length : tie.Need-same-length
@@ -55,7 +55,7 @@ returns-2 c =
     let s = e .before in
     let r = s .before .before .before .before .before in
     let a = r .before .before .before .before .before .before .args in
-    promised-told plain plainWalk plain-answers (a .rows .now) (a .colours .now) (a .budget) (opened (r .before)) _ (root-parts _ _ (r .root .ensures))
+    promised-told 64 plain plainWalk plain-answers (a .rows .now) (a .colours .now) (a .budget) (opened (r .before)) _ (root-parts _ _ (r .root .ensures))
     (s .start .result) (e .explore .result) (s .start .ensures) (e .explore .ensures) _ _ (t .told .ensures)
 
 pub plain-spec : {M : Type 1} → statement M

@@ -1,0 +1,69 @@
+-- The table's numbers tell its refusals apart, and none of them is 0, which says accepted; what is told with a refusal leaves its number as it
+-- is. Assumes nothing.
+use mathlib.Core.Path.{_≡_, refl, sym, ap, _∙_}
+use mathlib.Core.Logic.{_≢_}
+use mathlib.Core.Bool.{cond}
+use mathlib.Core.List.{List, [], _∷_}
+use mathlib.Core.Option.{Option, none, some}
+use Prim.Native.Nat.{ℕ}
+use native.Mathlib.Omega.{arith}
+use lib.Dec.{eqb}
+use Rattle.refusals.specs.Table.{Beside, nothing, aRow, theNodes, aLine, anIndex, entry, numberOf, accepted, with, told}
+use Rattle.refusals.specs.declared.Refusal.{Refusal}
+use Rattle.refusals.specs.declared.Refusal.the-variants.{Many, Stray, Itself, OneSided, Short, Budget, Deep, Line, Headless, Second, Size, Vertex, Loop, Count, Room, Long, Full, SheetLine, Member, Order, Twice, Clash, Ends, Missing, Extra, Colours}
+
+-- every refusal, in the table's order
+abbrev all : List Refusal
+all =
+    Many ∷ Stray ∷ Itself ∷ OneSided ∷ Short ∷ Budget ∷ Deep ∷ Line ∷ Headless ∷ Second ∷ Size ∷ Vertex ∷ Loop ∷ Count ∷ Room ∷ Long ∷ Full
+    ∷ SheetLine ∷ Member ∷ Order ∷ Twice ∷ Clash ∷ Ends ∷ Missing ∷ Extra ∷ Colours ∷ []
+
+-- who of these has the number n
+abbrev whose : ℕ → List Refusal → Option Refusal
+whose n [] = none
+whose n (r ∷ rs) = cond (eqb n (numberOf r)) (some r) (whose n rs)
+
+-- the number of each leads back to it, and 0 to none
+back : (r : Refusal) → whose (numberOf r) all ≡ some r
+back Many = refl
+back Stray = refl
+back Itself = refl
+back OneSided = refl
+back Short = refl
+back Budget = refl
+back Deep = refl
+back Line = refl
+back Headless = refl
+back Second = refl
+back Size = refl
+back Vertex = refl
+back Loop = refl
+back Count = refl
+back Room = refl
+back Long = refl
+back Full = refl
+back SheetLine = refl
+back Member = refl
+back Order = refl
+back Twice = refl
+back Clash = refl
+back Ends = refl
+back Missing = refl
+back Extra = refl
+back Colours = refl
+
+pub number-unique : (r q : Refusal) → numberOf r ≡ numberOf q → r ≡ q
+number-unique r q e = let h : some r ≡ some q = sym (back r) ∙ ap (λ (n : ℕ). whose n all) e ∙ back q in cc
+
+pub number-refuses : (r : Refusal) → numberOf r ≢ accepted
+number-refuses r e = let h : some r ≡ none = sym (back r) ∙ ap (λ (n : ℕ). whose n all) e in let z : _≡_ {A = ℕ} 0 1 = cc in absurd (omega arith)
+
+pub told-number : (r : Refusal) (x : ℕ) → told r x .number ≡ numberOf r
+told-number r x = go (entry r .beside)
+  where
+    go : (b : Beside) → with (entry r .number) b x .number ≡ entry r .number
+    go nothing = refl
+    go aRow = refl
+    go theNodes = refl
+    go aLine = refl
+    go anIndex = refl

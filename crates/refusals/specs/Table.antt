@@ -1,0 +1,94 @@
+-- Document 01, "Numbers given for a refusal": the one table of numbers. Every promise goes through it by number.
+--
+--   Beside          : what is returned with a refusal: nothing, a row, the nodes, a line, or an index
+--   Entry, entry r  : a row of the table: the number of the refusal r, and what is returned with it
+--   numberOf r      : its number
+--   accepted        : 0, the number of an answer that is no refusal
+--   Told            : an answer in the table's numbers: its number, and each number that can be returned with one, 0 where it is not named
+--   told r x        : the refusal r, with x where the table says that a number is returned with it
+--   fine            : accepted, with none of these
+--   If b P Q        : P where b is true, else Q; so a promise says "where the number is that of MANY, this; where it is that of STRAY, .."
+--
+-- `number-unique` of proofs/TableLaws.antt: no two refusals have one number, and none has the number 0. Assumes nothing.
+use mathlib.Core.Bool.{Bool, true, false}
+use Prim.Native.Nat.{ℕ}
+use Rattle.refusals.specs.declared.Refusal.{Refusal}
+use Rattle.refusals.specs.declared.Refusal.the-variants.{Many, Stray, Itself, OneSided, Short, Budget, Deep, Line, Headless, Second, Size, Vertex, Loop, Count, Room, Long, Full, SheetLine, Member, Order, Twice, Clash, Ends, Missing, Extra, Colours}
+
+pub data Beside : Type 0 where
+  nothing : Beside
+  aRow : Beside
+  theNodes : Beside
+  aLine : Beside
+  anIndex : Beside
+
+pub record Entry : Type 0 where
+  pub number : ℕ
+  pub beside : Beside
+
+abbrev pub row : ℕ → Beside → Entry
+row n b = record { number = n; beside = b }
+
+-- no., name, also returned
+abbrev pub entry : Refusal → Entry
+entry Many = row 1 nothing
+entry Stray = row 2 aRow
+entry Itself = row 3 aRow
+entry OneSided = row 4 aRow
+entry Short = row 5 nothing
+entry Budget = row 6 theNodes
+entry Deep = row 7 nothing
+entry Line = row 10 aLine
+entry Headless = row 11 aLine
+entry Second = row 12 aLine
+entry Size = row 13 aLine
+entry Vertex = row 14 aLine
+entry Loop = row 15 aLine
+entry Count = row 16 aLine
+entry Room = row 17 aLine
+entry Long = row 18 nothing
+entry Full = row 19 nothing
+entry SheetLine = row 30 aLine
+entry Member = row 31 aLine
+entry Order = row 32 aLine
+entry Twice = row 33 aLine
+entry Clash = row 34 aLine
+entry Ends = row 35 aLine
+entry Missing = row 36 aLine
+entry Extra = row 37 aLine
+entry Colours = row 38 anIndex
+
+abbrev pub numberOf : Refusal → ℕ
+numberOf r = entry r .number
+
+abbrev pub accepted : ℕ
+accepted = 0
+
+-- ---- answers in the table's numbers
+
+pub record Told : Type 0 where
+  pub number : ℕ
+  pub row : ℕ
+  pub nodes : ℕ
+  pub line : ℕ
+  pub index : ℕ
+
+-- "every result number not named is 0"
+abbrev pub with : ℕ → Beside → ℕ → Told
+with n nothing x = record { number = n; row = 0; nodes = 0; line = 0; index = 0 }
+with n aRow x = record { number = n; row = x; nodes = 0; line = 0; index = 0 }
+with n theNodes x = record { number = n; row = 0; nodes = x; line = 0; index = 0 }
+with n aLine x = record { number = n; row = 0; nodes = 0; line = x; index = 0 }
+with n anIndex x = record { number = n; row = 0; nodes = 0; line = 0; index = x }
+
+abbrev pub told : Refusal → ℕ → Told
+told r x = with (entry r .number) (entry r .beside) x
+
+abbrev pub fine : Told
+fine = with accepted nothing 0
+
+-- ---- promises by number
+
+abbrev pub If : Bool → Type 0 → Type 0 → Type 0
+If true P Q = P
+If false P Q = Q
