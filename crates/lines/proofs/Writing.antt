@@ -7,6 +7,7 @@ use mathlib.Core.List.{List, [], _∷_, _++_, append-assoc, append-nil}
 use mathlib.Core.Bool.{cond}
 use native.Mathlib.Nat.{pow-suc, add-zero}
 use native.Mathlib.Numerals.{add-one}
+use native.Mathlib.Decide.{decLt}
 use native.Mathlib.Omega.{arith}
 use borrow.Author.Tests.{le-leb, lt-leb}
 use lib.ListN.{length, take, drop, set, getD, length-append, length-drop, length-set, take-append-drop, drop-of-length-le}
@@ -157,6 +158,13 @@ length-ten k a f p n l h m = length-more n (omega arith) m ∙ ap (λ (x : ℕ).
 
 pub length-2 : (n : ℕ) → 10 ≤ n → n < 100 → length (numeral n) ≡ 2
 length-2 n l h = length-ten 1 1 (λ n _ h. length-one n h) (omega arith) n l h (omega arith)
+
+pub two-digits : (n : ℕ) → n < 100 → length (numeral n) ≤ 2
+two-digits n h = go (decLt n 10)
+  where
+    go : Dec (n < 10) → length (numeral n) ≤ 2
+    go (yes l) = omega (arith, length-one n l)
+    go (no l) = omega (arith, length-2 n (omega arith) h)
 
 pub length-3 : (n : ℕ) → 100 ≤ n → n < 1000 → length (numeral n) ≡ 3
 length-3 n l h = length-ten 2 10 length-2 (omega arith) n l h (omega arith)

@@ -1,4 +1,4 @@
--- The two calls, one after the other: what `write_list` wrote, `read_list` reads back as the same n and rows.
+-- The two calls, one after the other: what `write_list` wrote, `read_list` reads back as the same n and rows; and how much `write_list` writes.
 use Prim.Native.Nat.{ℕ, _+_, _≤_}
 use native.Mathlib.Omega.{arith}
 use mathlib.Core.Path.{_≡_, refl, sym, ap, subst, _∙_}
@@ -8,44 +8,68 @@ use borrow.Author.Tests.{leb-true}
 use lib.Dec.{leb}
 use lib.ListN.{length, take, drop}
 use lib.Seq.{take-at}
-use Rattle.clashes.specs.Matrix.{Judged, Sound}
+use Rattle.clashes.specs.Matrix.{JudgedUpTo, SoundUpTo}
 use Rattle.clashes.specs.declared.Verdict.{Verdict}
 use Rattle.clashes.specs.declared.Verdict.the-variants as judged
 use Rattle.lines.specs.Numeral.{over}
+use Rattle.lists.specs.Read.{mostEntries, longestText}
 use Rattle.lists.specs.Write.{textOf, answerOf, leftOf}
-use Rattle.lists.specs.Promise.{ReadPromise, WritePromise}
+use Rattle.lists.specs.Promise.{ReadPromiseUpTo, WritePromiseUpTo, ReadPromise, WritePromise}
 use Rattle.lists.specs.declared.Reading.{Reading}
 use Rattle.lists.specs.declared.Reading.the-variants.{Read}
 use Rattle.lists.specs.declared.Written.the-variants.{Length, Many, Stray, Itself, OneSided, Full}
-use Rattle.lists.proofs.ReadBack.{read-back}
+use Rattle.lists.proofs.ReadBack.{Sevens, sevens, read-up-to-back}
+use Rattle.lists.proofs.Lengths.{list-most}
 
 -- a text of length k was written: the rows are sound, and the first k bytes are their text
-record Wrote (rows : List ℕ) (k : ℕ) (out : List ℕ) : Type 0 where
-  sound : Sound rows
+record Wrote (most : ℕ) (rows : List ℕ) (k : ℕ) (out : List ℕ) : Type 0 where
+  sound : SoundUpTo most rows
+  long : k ≡ length (textOf rows)
   text : take k out ≡ textOf rows
 
-wrote : (rows old : List ℕ) (v : Verdict) (k : ℕ) (out : List ℕ) → Judged rows v → Length k ≡ answerOf v (textOf rows) (length old) → out ≡ leftOf v (textOf rows) old → Wrote rows k out
-wrote rows old judged.Valid k out j a l = go (leb (length (textOf rows)) (length old)) a l
-  where
-    go : (b : Bool) → Length k ≡ cond b (Length (length (textOf rows))) Full → out ≡ cond b (over old 0 (textOf rows)) old → Wrote rows k out
-    go true a l =
-        let e : k ≡ length (textOf rows) = cc in
-        record { sound = j; text = ap (take k) l ∙ take-at (textOf rows) (drop (0 + length (textOf rows)) old) k (sym e) }
-    go false a l = let z : _≡_ {A = ℕ} 0 1 = cc in absurd (omega arith)
-wrote rows old judged.Many k out j a l = let z : _≡_ {A = ℕ} 0 1 = cc in absurd (omega arith)
-wrote rows old (judged.Stray i) k out j a l = let z : _≡_ {A = ℕ} 0 1 = cc in absurd (omega arith)
-wrote rows old (judged.Itself i) k out j a l = let z : _≡_ {A = ℕ} 0 1 = cc in absurd (omega arith)
-wrote rows old (judged.OneSided i) k out j a l = let z : _≡_ {A = ℕ} 0 1 = cc in absurd (omega arith)
+module _ (most : ℕ) (rows old : List ℕ) (k : ℕ) (out : List ℕ) where
+  wrote : (v : Verdict) → JudgedUpTo most rows v → Length k ≡ answerOf v (textOf rows) (length old) → out ≡ leftOf v (textOf rows) old → Wrote most rows k out
+  wrote judged.Valid j a l = go (leb (length (textOf rows)) (length old)) a l
+    where
+      go : (b : Bool) → Length k ≡ cond b (Length (length (textOf rows))) Full → out ≡ cond b (over old 0 (textOf rows)) old → Wrote most rows k out
+      go true a l =
+          let e : k ≡ length (textOf rows) = cc in
+          record { sound = j; long = e; text = ap (take k) l ∙ take-at (textOf rows) (drop (0 + length (textOf rows)) old) k (sym e) }
+      go false a l = let z : _≡_ {A = ℕ} 0 1 = cc in absurd (omega arith)
+  wrote judged.Many j a l = let z : _≡_ {A = ℕ} 0 1 = cc in absurd (omega arith)
+  wrote (judged.Stray i) j a l = let z : _≡_ {A = ℕ} 0 1 = cc in absurd (omega arith)
+  wrote (judged.Itself i) j a l = let z : _≡_ {A = ℕ} 0 1 = cc in absurd (omega arith)
+  wrote (judged.OneSided i) j a l = let z : _≡_ {A = ℕ} 0 1 = cc in absurd (omega arith)
 
-pub calls-back : (rows old out lent : List ℕ) (k : ℕ) (a : Reading) (new : List ℕ) → WritePromise rows old (Length k) out → ReadPromise (take k out) lent a new → length rows ≤ length lent
+  wrote-is : WritePromiseUpTo most rows old (Length k) out → Wrote most rows k out
+  wrote-is w = wrote (w .verdict) (w .judged) (w .answer) (w .lent)
+
+  pub calls-up-to-back : (longest : ℕ) (lent : List ℕ) (a : Reading) (new : List ℕ) → WritePromiseUpTo most rows old (Length k) out
+      → ReadPromiseUpTo most longest (take k out) lent a new → length rows ≤ length lent → Sevens rows → k ≤ longest
+      → (a ≡ Read (length rows)) × (new ≡ rows ++ drop (length rows) lent)
+  calls-up-to-back longest lent a new w r h s z =
+      let x = wrote-is w in
+      let b = read-up-to-back most rows (x .sound) longest lent h s (omega (arith, x .long)) in
+      let q = subst (λ (s : List ℕ). ReadPromiseUpTo most longest s lent a new) (x .text) r in
+      (q .answer ∙ b .0, q .lent ∙ b .1)
+
+-- ---- with today's limits
+
+-- the C header's figure
+pub write-most : (rows old : List ℕ) (k : ℕ) (out : List ℕ) → WritePromise rows old (Length k) out → k ≤ 15576
+write-most rows old k out w =
+    let x = wrote-is mostEntries rows old k out w in
+    omega (arith, x .long, list-most rows (x .sound .apart .inside .few))
+
+pub calls-back : (rows old out lent : List ℕ) (k : ℕ) (a : Reading) (new : List ℕ) → WritePromise rows old (Length k) out
+    → ReadPromise (take k out) lent a new → length rows ≤ length lent
     → (a ≡ Read (length rows)) × (new ≡ rows ++ drop (length rows) lent)
 calls-back rows old out lent k a new w r h =
-    let x = wrote rows old (w .verdict) k out (w .judged) (w .answer) (w .lent) in
-    let b = read-back rows (x .sound) lent h in
-    let q = subst (λ (s : List ℕ). ReadPromise s lent a new) (x .text) r in
-    (q .answer ∙ b .0, q .lent ∙ b .1)
+    let few = wrote-is mostEntries rows old k out w .sound .apart .inside .few in
+    calls-up-to-back mostEntries rows old k out longestText lent a new w r h (sevens rows few) (omega (arith, write-most rows old k out w))
 
--- a text that was written fits the lent bytes
+-- ---- a text that was written fits the lent bytes
+
 pub write-fits : (rows old : List ℕ) (k : ℕ) (out : List ℕ) → WritePromise rows old (Length k) out → k ≤ length old
 write-fits rows old k out w = go (w .verdict) (w .answer)
   where

@@ -6,6 +6,7 @@ pub mod EdgeLaws
 pub mod Writes
 pub mod Marks
 pub mod EdgeMembers
+pub mod Lengths
 pub mod ReadBack
 pub mod ReadSound
 pub mod Lines

@@ -5,7 +5,7 @@ use mathlib.Core.List.{List, [], _∷_, _++_}
 use mathlib.Core.Bool.{true}
 use mathlib.Core.Logic.{inl, inr, ⊎-elim}
 use native.Mathlib.Nat.{add-zero}
-use native.Mathlib.Decide.{decLt, decLe}
+use native.Mathlib.Decide.{decLt}
 use native.Mathlib.Omega.{arith}
 use borrow.Author.Tests.{le-leb, eq-eqb, ne-eqb}
 use lib.Dec.{T}
@@ -17,8 +17,7 @@ use Rattle.sets.proofs.SetLaws.{same-members}
 use Rattle.clashes.specs.Matrix.{matrix, SoundUpTo, Sound}
 use Rattle.lines.specs.Text.{Text, linesOf}
 use Rattle.lines.specs.Numeral.{numeral, twoLine}
-use Rattle.lines.proofs.Writing.{length-one, length-2, two-length}
-use Rattle.lines.proofs.Back.{numeral-length, pair-back, two-back}
+use Rattle.lines.proofs.Back.{pair-back, two-back}
 use Rattle.lists.specs.Shape.{pWord, eWord, asP, asE, shapeOf}
 use Rattle.lists.specs.Read.{noRowsUpTo, accepted, stepUpTo, join, finishUpTo, afterUpTo, readFromUpTo, start, readUpTo, mostEntries, longestText, noRows, readOf, writtenOf}
 use Rattle.lists.specs.Edges.{edges}
@@ -32,7 +31,7 @@ use Rattle.lists.specs.declared.Step.the-variants.{Go, Edge}
 use Rattle.lists.proofs.Fold.{read-short}
 use Rattle.lists.proofs.Marks.{joins, Below, Among, joins-length, joins-was, joins-new, none-bare}
 use Rattle.lists.proofs.EdgeMembers.{edges-In, In-edges, edges-le}
-use Rattle.lists.proofs.Writes.{text-length}
+use Rattle.lists.proofs.Lengths.{list-most}
 
 -- ---- the e lines
 
@@ -73,30 +72,8 @@ module _ (most : ℕ) where
       ∙ edges-read es n m (c + 1) room (k + 1) (join g (e .0) (e .1)) (λ x i. h x (inr i)) d
       ∙ rw (u, v)
 
--- ---- the length of the text
-
-two-digits : (n : ℕ) → n < 100 → length (numeral n) ≤ 2
-two-digits n h = go (decLe 10 n)
-  where
-    go : Dec (10 ≤ n) → length (numeral n) ≤ 2
-    go (yes l) = omega (arith, length-2 n l h)
-    go (no l) = omega (arith, length-one n (omega arith))
-
-lines-le : (es : List (ℕ × ℕ)) (n : ℕ) → Rising n es → n ≤ 64 → length (edgesText es) ≤ 8 * length es
-lines-le [] n h d = omega arith
-lines-le (e ∷ es) n h d =
-    let l = h e (inl refl) in
-    let r = lines-le es n (λ x i. h x (inr i)) d in
-    omega (arith, length-append (twoLine eWord (e .0 + 1) (e .1 + 1)) (edgesText es), two-length eWord (e .0 + 1) (e .1 + 1), two-digits (e .0 + 1) (omega arith), two-digits (e .1 + 1) (omega arith))
-
 rising : (rows : List ℕ) → Rising (length rows) (edges rows)
 rising rows e m = let x = edges-In rows (e .0) (e .1) m in (x .rising, x .within)
-
-pub text-le : (rows : List ℕ) → length rows ≤ 64 → length (textOf rows) ≤ 65536
-text-le rows h =
-    let n = length rows in
-    let m = length (edges rows) in
-    omega (arith, text-length rows, lines-le (edges rows) n (rising rows) h, edges-le rows h, numeral-length n .1, numeral-length m .1)
 
 -- ---- the whole text
 
@@ -176,14 +153,14 @@ module _ (most : ℕ) (rows : List ℕ) (sound : SoundUpTo most rows) where
 
 -- ---- with today's limits
 
-sevens : (rows : List ℕ) → length rows ≤ mostEntries → Sevens rows
+pub sevens : (rows : List ℕ) → length rows ≤ mostEntries → Sevens rows
 sevens rows h = (omega arith, omega (arith, edges-le rows h))
 
 pub text-read : (rows : List ℕ) (room : ℕ) → length rows ≤ mostEntries → length rows ≤ room → readOf (textOf rows) room ≡ accepted (length rows) (joins (edges rows) noRows)
-text-read rows room h k = text-up-to-read mostEntries longestText rows room h k (sevens rows h) (text-le rows h)
+text-read rows room h k = text-up-to-read mostEntries longestText rows room h k (sevens rows h) (omega (arith, list-most rows h))
 
 pub read-back : (rows : List ℕ) → Sound rows → (old : List ℕ) → length rows ≤ length old
     → (readOf (textOf rows) (length old) .answer ≡ Read (length rows)) × (writtenOf (readOf (textOf rows) (length old)) old ≡ rows ++ drop (length rows) old)
 read-back rows sound old k =
     let h = sound .apart .inside .few in
-    read-up-to-back mostEntries rows sound longestText old k (sevens rows h) (text-le rows h)
+    read-up-to-back mostEntries rows sound longestText old k (sevens rows h) (omega (arith, list-most rows h))

@@ -3,6 +3,7 @@ pub mod Members
 pub mod Writes
 pub mod Unique
 pub mod Groups
+pub mod Lengths
 pub mod ReadBack
 pub mod FirstClash
 pub mod Calls

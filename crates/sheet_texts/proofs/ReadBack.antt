@@ -1,6 +1,6 @@
 -- What is written, checked: line by line it is accepted, until the first member that clashes with an earlier one of its group.
 --
---   found x o     : 34 at the line x, or o where there is none
+--   found most x o : 34 at the line x, or o where there is none
 --   isIn l j      : j is one of l's elements
 --   placedAll p l : the counts after the members l
 --   addAll m l    : the set m with the members l
@@ -16,7 +16,7 @@ use native.Mathlib.Decide.{decLt, ℕ-discrete}
 use native.Mathlib.Omega.{arith}
 use borrow.Author.Tests.{le-leb, lt-leb, lt-ltb}
 use lib.Dec.{T, eqb, eqb→eq}
-use lib.ListN.{length, take, getD, set, length-set}
+use lib.ListN.{length, take, getD, set, length-set, length-replicate}
 use lib.Seq.{getD-set-same, getD-set-other, getD-take, length-take-le, ext-getD}
 use Rattle.sets.specs.Lists.{In, all, any, some?}
 use Rattle.sets.proofs.TestLaws.{and-l, and-r, and-t, or-l, or-r, or-cases, T→true, T→false, T-ext, any-make, any-get, eqb-of, all-make}
@@ -26,7 +26,8 @@ use Rattle.lines.specs.Text.{Text, linesOf}
 use Rattle.lines.specs.Numeral.{numeral, oneLine}
 use Rattle.lines.specs.declared.Alone.the-variants.{Only}
 use Rattle.lines.proofs.Back.{alone-back, one-back}
-use Rattle.sheets.specs.Check.{noColours, accepted, refused, groupsWord, sizeWord, placed, stepOf, none as nobody, after, checkFrom, start, sheetOf}
+use Rattle.lists.specs.Read.{mostEntries, longestText}
+use Rattle.sheets.specs.Check.{noColoursUpTo, accepted, refusedUpTo, groupsWord, sizeWord, placed, stepOf, none as nobody, afterUpTo, checkFromUpTo, start, sheetUpTo, sheetOf}
 use Rattle.sheets.specs.declared.SheetFault.the-variants.{Clash}
 use Rattle.sheets.specs.declared.Outcome.{Outcome}
 use Rattle.sheets.specs.declared.Progress.{Progress}
@@ -35,16 +36,17 @@ use Rattle.sheets.specs.declared.Step.the-variants.{Stop, Count, Place}
 use Rattle.sheets.proofs.Steps.{at-member, at-size, at-groups}
 use Rattle.sheet_texts.specs.Sheet.{membersOf, memberLines, groupText, groupsText, sheetText, clashIn, orElse, clashFrom, clashLine}
 use Rattle.sheet_texts.proofs.FirstUse.{groups-fit}
-use Rattle.sheet_texts.proofs.Members.{members-le, sheet-short}
+use Rattle.sheet_texts.proofs.Members.{members-le}
+use Rattle.sheet_texts.proofs.Lengths.{sheet-fits}
 use Rattle.sheet_texts.proofs.Groups.{Rising, rising-from, Led, group-led, members-risen, member-of, of-member}
 
-abbrev pub found : Option ℕ → Outcome → Outcome
-found none o = o
-found (some k) o = refused Clash k
+abbrev pub found : ℕ → Option ℕ → Outcome → Outcome
+found most none o = o
+found most (some k) o = refusedUpTo most Clash k
 
-found-else : (x y : Option ℕ) (o : Outcome) → found (orElse x y) o ≡ found x (found y o)
-found-else none y o = refl
-found-else (some k) y o = refl
+found-else : (most : ℕ) (x y : Option ℕ) (o : Outcome) → found most (orElse x y) o ≡ found most x (found most y o)
+found-else most none y o = refl
+found-else most (some k) y o = refl
 
 -- ---- sets of members
 
@@ -129,7 +131,7 @@ placed-first p (i ∷ l) e = placed-first (placed p (i + 1)) l refl ∙ rw e
 
 -- ---- one member
 
-module _ (n : ℕ) (few : n ≤ 64) (clash : ℕ → ℕ → Bool) where
+module _ (most n : ℕ) (sevens : n < 10000000) (clash : ℕ → ℕ → Bool) where
   -- what holds before the members l of the group g, of which those in `seen` were read
   pub record Ready (g : ℕ) (p : Progress) (mates earlier : ℕ → Bool) (seen l : List ℕ) : Type 0 where
     pub begun : p .begun ≡ true
@@ -151,14 +153,14 @@ module _ (n : ℕ) (few : n ≤ 64) (clash : ℕ → ℕ → Bool) where
 
   -- the members l, and then the rest of the sheet
   members-read : (g : ℕ) (p : Progress) (mates earlier : ℕ → Bool) (seen l rest : List ℕ) (colours : List ℕ) (k : ℕ) → Ready g p mates earlier seen l
-      → checkFrom (linesOf (memberLines l ++ rest)) n clash k p mates earlier colours
-      ≡ found (clashIn clash seen l k) (checkFrom (linesOf rest) n clash (k + length l) (placedAll p l) (addAll mates l) earlier (setAll colours l g))
+      → checkFromUpTo most (linesOf (memberLines l ++ rest)) n clash k p mates earlier colours
+      ≡ found most (clashIn clash seen l k) (checkFromUpTo most (linesOf rest) n clash (k + length l) (placedAll p l) (addAll mates l) earlier (setAll colours l g))
   members-read g p mates earlier seen [] rest colours k r = rw (add-zero k)
   members-read g p mates earlier seen (i ∷ l) rest colours k r =
       let t = memberLines l ++ rest in
-      ap (λ (x : List ℕ). checkFrom (linesOf x) n clash k p mates earlier colours) (append-assoc (oneLine [] (i + 1)) (memberLines l) rest)
-      ∙ ap (λ (x : Text). checkFrom x n clash k p mates earlier colours) (one-back [] (i + 1) t tt)
-      ∙ ap (λ (x : Step). after x k mates earlier colours (checkFrom (linesOf t) n clash (k + 1))) (member-step g p mates earlier seen i l r)
+      ap (λ (x : List ℕ). checkFromUpTo most (linesOf x) n clash k p mates earlier colours) (append-assoc (oneLine [] (i + 1)) (memberLines l) rest)
+      ∙ ap (λ (x : Text). checkFromUpTo most x n clash k p mates earlier colours) (one-back [] (i + 1) t tt)
+      ∙ ap (λ (x : Step). afterUpTo most x k mates earlier colours (checkFromUpTo most (linesOf t) n clash (k + 1))) (member-step g p mates earlier seen i l r)
       ∙ go (some? (clash i) seen) (members-read g (placed p (i + 1)) (λ j. mates j || eqb i j) earlier (i ∷ seen) l rest (set colours i g) (k + 1) next)
     where
       next : Ready g (placed p (i + 1)) (λ j. mates j || eqb i j) earlier (i ∷ seen) l
@@ -173,16 +175,16 @@ module _ (n : ℕ) (few : n ≤ 64) (clash : ℕ → ℕ → Bool) where
       }
 
       go : (b : Bool)
-          → checkFrom (linesOf (memberLines l ++ rest)) n clash (k + 1) (placed p (i + 1)) (λ j. mates j || eqb i j) earlier (set colours i g)
-          ≡ found (clashIn clash (i ∷ seen) l (k + 1)) (checkFrom (linesOf rest) n clash (k + 1 + length l) (placedAll p (i ∷ l)) (addAll mates (i ∷ l)) earlier (setAll colours (i ∷ l) g))
-          → after (cond b (Stop Clash) (Place (placed p (i + 1)) i g)) k mates earlier colours (checkFrom (linesOf (memberLines l ++ rest)) n clash (k + 1))
-          ≡ found (cond b (some k) (clashIn clash (i ∷ seen) l (k + 1))) (checkFrom (linesOf rest) n clash (k + suc (length l)) (placedAll p (i ∷ l)) (addAll mates (i ∷ l)) earlier (setAll colours (i ∷ l) g))
+          → checkFromUpTo most (linesOf (memberLines l ++ rest)) n clash (k + 1) (placed p (i + 1)) (λ j. mates j || eqb i j) earlier (set colours i g)
+          ≡ found most (clashIn clash (i ∷ seen) l (k + 1)) (checkFromUpTo most (linesOf rest) n clash (k + 1 + length l) (placedAll p (i ∷ l)) (addAll mates (i ∷ l)) earlier (setAll colours (i ∷ l) g))
+          → afterUpTo most (cond b (Stop Clash) (Place (placed p (i + 1)) i g)) k mates earlier colours (checkFromUpTo most (linesOf (memberLines l ++ rest)) n clash (k + 1))
+          ≡ found most (cond b (some k) (clashIn clash (i ∷ seen) l (k + 1))) (checkFromUpTo most (linesOf rest) n clash (k + suc (length l)) (placedAll p (i ∷ l)) (addAll mates (i ∷ l)) earlier (setAll colours (i ∷ l) g))
       go true h = refl
       go false h = let e : k + 1 + length l ≡ k + suc (length l) = omega arith in h ∙ rw e
 
 -- ---- the groups
 
-module _ (c : List ℕ) (canon : Canon 0 c) (few : length c ≤ 64) (clash : ℕ → ℕ → Bool) where
+module _ (most : ℕ) (c : List ℕ) (canon : Canon 0 c) (few : length c ≤ most) (sevens : length c < 10000000) (clash : ℕ → ℕ → Bool) where
   abbrev n : ℕ
   n = length c
 
@@ -195,10 +197,10 @@ module _ (c : List ℕ) (canon : Canon 0 c) (few : length c ≤ 64) (clash : ℕ
     pub before : (j : ℕ) → j < length c → g ≤ at c j → p .first ≤ j
     pub seen-back : (j : ℕ) → T (earlier j || mates j) → at c j < g
     pub seen : (j : ℕ) → j < length c → at c j < g → T (earlier j || mates j)
-    pub size : length colours ≡ 64
+    pub size : length colours ≡ most
     pub coloured : (j : ℕ) → j < length c → at c j < g → getD colours j 0 ≡ at c j
 
-  -- after "size S"
+  -- afterUpTo most "size S"
   abbrev opening : ℕ → Progress → Progress
   opening g p = record { begun = true; left = p .left - 1; need = length (membersOf c 0 g); opened = p .opened + 1; fresh = true; first = p .first; floor = p .first }
 
@@ -213,7 +215,7 @@ module _ (c : List ℕ) (canon : Canon 0 c) (few : length c ≤ 64) (clash : ℕ
     abbrev m : List ℕ
     m = membersOf c 0 g
 
-    ready : Ready n few clash g (opening g p) nobody (λ j. earlier j || mates j) [] m
+    ready : Ready most n sevens clash g (opening g p) nobody (λ j. earlier j || mates j) [] m
     ready = record {
       begun = refl;
       need = refl;
@@ -259,24 +261,24 @@ module _ (c : List ℕ) (canon : Canon 0 c) (few : length c ≤ 64) (clash : ℕ
 
     -- one group, and then the rest of the sheet
     group-read : (rest : List ℕ) (line : ℕ)
-        → checkFrom (linesOf (groupText c g ++ rest)) n clash line p mates earlier colours
-        ≡ found (clashIn clash [] m (line + 1)) (checkFrom (linesOf rest) n clash (line + 1 + length m) (placedAll (opening g p) m) (addAll nobody m) (λ j. earlier j || mates j) (setAll colours m g))
+        → checkFromUpTo most (linesOf (groupText c g ++ rest)) n clash line p mates earlier colours
+        ≡ found most (clashIn clash [] m (line + 1)) (checkFromUpTo most (linesOf rest) n clash (line + 1 + length m) (placedAll (opening g p) m) (addAll nobody m) (λ j. earlier j || mates j) (setAll colours m g))
     group-read rest line =
         let t = memberLines m ++ rest in
         let b : 1 ≤ length m = omega (arith, ap length (led .whole)) in
-        ap (λ (x : List ℕ). checkFrom (linesOf x) n clash line p mates earlier colours) (append-assoc (oneLine sizeWord (length m)) (memberLines m) rest)
-        ∙ ap (λ (x : Text). checkFrom x n clash line p mates earlier colours) (one-back sizeWord (length m) t ((λ e. omega arith), ((λ e. omega arith), ((λ e. omega arith), ((λ e. omega arith), ((λ e. omega arith), tt))))))
-        ∙ ap (λ (x : Step). after x line mates earlier colours (checkFrom (linesOf t) n clash (line + 1))) (size-step g p mates earlier (st .begun) (st .need) (omega (arith, st .left)) b)
-        ∙ members-read n few clash g (opening g p) nobody (λ j. earlier j || mates j) [] m rest colours (line + 1) ready
+        ap (λ (x : List ℕ). checkFromUpTo most (linesOf x) n clash line p mates earlier colours) (append-assoc (oneLine sizeWord (length m)) (memberLines m) rest)
+        ∙ ap (λ (x : Text). checkFromUpTo most x n clash line p mates earlier colours) (one-back sizeWord (length m) t ((λ e. omega arith), ((λ e. omega arith), ((λ e. omega arith), ((λ e. omega arith), ((λ e. omega arith), tt))))))
+        ∙ ap (λ (x : Step). afterUpTo most x line mates earlier colours (checkFromUpTo most (linesOf t) n clash (line + 1))) (size-step g p mates earlier (st .begun) (st .need) (omega (arith, st .left)) b)
+        ∙ members-read most n sevens clash g (opening g p) nobody (λ j. earlier j || mates j) [] m rest colours (line + 1) ready
 
   -- the group numbers are those that were written
-  colours-are : (w : List ℕ) → length w ≡ 64 → ((j : ℕ) → j < length c → getD w j 0 ≡ at c j) → take n w ≡ c
+  colours-are : (w : List ℕ) → length w ≡ most → ((j : ℕ) → j < length c → getD w j 0 ≡ at c j) → take n w ≡ c
   colours-are w z h =
       let l = length-take-le n w (omega arith) in
       ext-getD 0 (take n w) c l (λ j b. getD-take n w j 0 (omega arith) ∙ h j (omega arith))
 
   groups-read : (k g : ℕ) (p : Progress) (mates earlier : ℕ → Bool) (colours : List ℕ) (line : ℕ) → State g k p mates earlier colours → g + k ≡ groups 0 c
-      → (w : List ℕ) × (take n w ≡ c) × (checkFrom (linesOf (groupsText c g k)) n clash line p mates earlier colours ≡ found (clashFrom clash c g k line) (accepted n (groups 0 c) w))
+      → (w : List ℕ) × (take n w ≡ c) × (checkFromUpTo most (linesOf (groupsText c g k)) n clash line p mates earlier colours ≡ found most (clashFrom clash c g k line) (accepted n (groups 0 c) w))
   groups-read zero g p mates earlier colours line st e =
       let z : g ≡ groups 0 c = omega arith in
       let b : (j : ℕ) → j < length c → at c j < g = λ j h. omega (arith, canon-below 0 c j h) in
@@ -292,8 +294,8 @@ module _ (c : List ℕ) (canon : Canon 0 c) (few : length c ≤ 64) (clash : ℕ
         r .0,
         r .1,
         group-read g k p mates earlier colours st led (groupsText c (g + 1) k) line
-            ∙ ap (found (clashIn clash [] m (line + 1))) (r .2)
-            ∙ sym (found-else (clashIn clash [] m (line + 1)) (clashFrom clash c (g + 1) k (line + 1 + length m)) (accepted n (groups 0 c) (r .0))),
+            ∙ ap (found most (clashIn clash [] m (line + 1))) (r .2)
+            ∙ sym (found-else most (clashIn clash [] m (line + 1)) (clashFrom clash c (g + 1) k (line + 1 + length m)) (accepted n (groups 0 c) (r .0))),
       )
 
   -- ---- the whole sheet
@@ -301,7 +303,7 @@ module _ (c : List ℕ) (canon : Canon 0 c) (few : length c ≤ 64) (clash : ℕ
   abbrev begun : Progress
   begun = record { begun = true; left = groups 0 c; need = 0; opened = 0; fresh = false; first = 0; floor = 0 }
 
-  first-state : State 0 (groups 0 c) begun nobody (λ j. nobody j || nobody j) noColours
+  first-state : State 0 (groups 0 c) begun nobody (λ j. nobody j || nobody j) (noColoursUpTo most)
   first-state = record {
     begun = refl;
     need = refl;
@@ -310,21 +312,26 @@ module _ (c : List ℕ) (canon : Canon 0 c) (few : length c ≤ 64) (clash : ℕ
     before = λ j b e. omega arith;
     seen-back = λ j t. absurd t;
     seen = λ j b e. absurd (not-suc-le-zero e);
-    size = refl;
+    size = length-replicate most 0;
     coloured = λ j b e. absurd (not-suc-le-zero e);
   }
 
   -- a written sheet, checked: 34 at the first clash, or accepted with the same k and the same group numbers
-  pub sheet-read : (w : List ℕ) × (take (length c) w ≡ c) × (sheetOf (length c) clash (sheetText c) ≡ found (clashLine clash c) (accepted (length c) (groups 0 c) w))
+  pub sheet-up-to-read : (longest : ℕ) → length (sheetText c) ≤ longest → (w : List ℕ) × (take (length c) w ≡ c) × (sheetUpTo most longest (length c) clash (sheetText c) ≡ found most (clashLine clash c) (accepted (length c) (groups 0 c) w))
   unfolding sheetText clashLine
-  sheet-read =
+  sheet-up-to-read longest short =
       let k = groups 0 c in
       let fit = groups-fit 0 c canon in
-      let r = groups-read k 0 begun nobody (λ j. nobody j || nobody j) noColours 2 first-state (omega arith) in (
+      let r = groups-read k 0 begun nobody (λ j. nobody j || nobody j) (noColoursUpTo most) 2 first-state (omega arith) in (
         r .0,
         r .1,
-        rw (le-leb (length (sheetText c)) 65536 (omega (arith, sheet-short c few (omega arith))))
-            (ap (λ (x : Text). checkFrom x n clash 1 start nobody nobody noColours) (one-back groupsWord k (groupsText c 0 k) ((λ e. omega arith), ((λ e. omega arith), ((λ e. omega arith), ((λ e. omega arith), ((λ e. omega arith), ((λ e. omega arith), ((λ e. omega arith), tt))))))))
-            ∙ ap (λ (x : Step). after x 1 nobody nobody noColours (checkFrom (linesOf (groupsText c 0 k)) n clash 2)) (at-groups n clash start nobody nobody (groupsWord ++ numeral k) (Only k) refl (alone-back k (omega arith)))
+        rw (le-leb (length (sheetText c)) longest short)
+            (ap (λ (x : Text). checkFromUpTo most x n clash 1 start nobody nobody (noColoursUpTo most)) (one-back groupsWord k (groupsText c 0 k) ((λ e. omega arith), ((λ e. omega arith), ((λ e. omega arith), ((λ e. omega arith), ((λ e. omega arith), ((λ e. omega arith), ((λ e. omega arith), tt))))))))
+            ∙ ap (λ (x : Step). afterUpTo most x 1 nobody nobody (noColoursUpTo most) (checkFromUpTo most (linesOf (groupsText c 0 k)) n clash 2)) (at-groups n clash start nobody nobody (groupsWord ++ numeral k) (Only k) refl (alone-back k (omega arith)))
             ∙ r .2),
       )
+
+-- with today's limits every sheet is short enough
+pub sheet-read : (c : List ℕ) (canon : Canon 0 c) → length c ≤ mostEntries → (clash : ℕ → ℕ → Bool)
+    → (w : List ℕ) × (take (length c) w ≡ c) × (sheetOf (length c) clash (sheetText c) ≡ found mostEntries (clashLine clash c) (accepted (length c) (groups 0 c) w))
+sheet-read c canon few clash = sheet-up-to-read mostEntries c canon few (omega arith) clash longestText (sheet-fits c canon few)

@@ -12,7 +12,7 @@ use Rattle.lines.specs.Numeral.{oneLine, Put}
 use Rattle.lines.proofs.Writing.{put-length, put-then}
 use Rattle.sheets.specs.Check.{groupsWord}
 use Rattle.sheet_texts.specs.Sheet.{numbering, groupText, groupsText, sheetText}
-use Rattle.sheet_texts.specs.Promise.{judged, answerOf, written, WritePromise}
+use Rattle.sheet_texts.specs.Promise.{judged, answerUpTo, written, WritePromiseUpTo}
 use Rattle.sheet_texts.specs.declared.Numbering.{Numbering}
 use Rattle.sheet_texts.specs.declared.Numbering.the-variants.{Used, Wrong}
 use Rattle.sheet_texts.specs.declared.Written.{Written}
@@ -54,25 +54,25 @@ composed o x new n p =
     let e : length x ≡ n = omega (arith, p .0) in
     ap (take n) (p .1) ∙ take-at x (drop (0 + length x) o) n e
 
-module _ (c old : List ℕ) where
-  pub wrote-many : 64 < length c → WritePromise c old Many old
-  wrote-many h = let e = lt-leb (length c) 64 h in record { answer = rw e; lent = rw e }
+module _ (most : ℕ) (c old : List ℕ) where
+  pub wrote-many : most < length c → WritePromiseUpTo most c old Many old
+  wrote-many h = let e = lt-leb (length c) most h in record { answer = rw e; lent = rw e }
 
-  module _ (few : length c ≤ 64) where
-    answer-is : {v : Numbering} → numbering c ≡ v → answerOf c (length old) ≡ judged v (sheetText c) (length old)
-    answer-is {v} e = ap (λ (b : Bool). cond b (judged (numbering c) (sheetText c) (length old)) Many) (le-leb (length c) 64 few) ∙ ap (λ (n : Numbering). judged n (sheetText c) (length old)) e
+  module _ (few : length c ≤ most) where
+    answer-is : {v : Numbering} → numbering c ≡ v → answerUpTo most c (length old) ≡ judged v (sheetText c) (length old)
+    answer-is {v} e = ap (λ (b : Bool). cond b (judged (numbering c) (sheetText c) (length old)) Many) (le-leb (length c) most few) ∙ ap (λ (n : Numbering). judged n (sheetText c) (length old)) e
 
-    wrote : (a : Written) (new : List ℕ) → answerOf c (length old) ≡ a → new ≡ written a (sheetText c) old → WritePromise c old a new
+    wrote : (a : Written) (new : List ℕ) → answerUpTo most c (length old) ≡ a → new ≡ written a (sheetText c) old → WritePromiseUpTo most c old a new
     wrote a new e w = record { answer = sym e; lent = w ∙ ap (λ (x : Written). written x (sheetText c) old) (sym e) }
 
-    pub wrote-wrong : (i : ℕ) → numbering c ≡ Wrong i → WritePromise c old (Colours i) old
+    pub wrote-wrong : (i : ℕ) → numbering c ≡ Wrong i → WritePromiseUpTo most c old (Colours i) old
     wrote-wrong i e = wrote (Colours i) old (answer-is e) refl
 
     module _ (k : ℕ) (u : numbering c ≡ Used k) (n : ℕ) (l : n ≡ length (sheetText c)) where
-      pub wrote-full : length old < n → WritePromise c old Full old
+      pub wrote-full : length old < n → WritePromiseUpTo most c old Full old
       wrote-full h = wrote Full old (answer-is u ∙ rw (lt-leb (length (sheetText c)) (length old) (omega arith))) refl
 
-      pub wrote-all : (new : List ℕ) (m : ℕ) → n ≤ length old → Put old 0 (sheetText c) new m → WritePromise c old (Length m) new
+      pub wrote-all : (new : List ℕ) (m : ℕ) → n ≤ length old → Put old 0 (sheetText c) new m → WritePromiseUpTo most c old (Length m) new
       wrote-all new m h p =
           let e : m ≡ length (sheetText c) = omega (arith, p .0) in
           wrote (Length m) new (answer-is u ∙ rw (le-leb (length (sheetText c)) (length old) (omega arith), e)) (p .1)

@@ -12,14 +12,14 @@ use Rattle.sets.specs.Lists.{all}
 use Rattle.clashes.specs.Matrix.{matrix}
 use Rattle.lines.specs.Text.{Text, done, unended, ended, linesOf}
 use Rattle.lines.proofs.Basics.{cond-cases}
-use Rattle.lists.specs.Read.{readOf}
+use Rattle.lists.specs.Read.{readUpTo}
 use Rattle.lists.specs.declared.Fault.{Fault}
 use Rattle.lists.specs.declared.Found.{Found}
 use Rattle.lists.specs.declared.Reading.{Reading}
 use Rattle.lists.specs.declared.Reading.the-variants.{Read, Refused as Unreadable}
-use Rattle.lists.proofs.Fold.{Bounded, read-few}
-use Rattle.sheets.specs.Check.{noColours, without, refused, stepOf, met, finish, none, after, checkFrom, start, sheetOf, against, checkOf}
-use Rattle.sheets.specs.Promise.{numbersOf, writtenOf, CheckPromise, theList, heldBy, ShownOf, PreviewPromise}
+use Rattle.lists.proofs.Fold.{Bounded, read-up-to-few}
+use Rattle.sheets.specs.Check.{noColoursUpTo, withoutUpTo, refusedUpTo, stepOf, met, finishUpTo, none, afterUpTo, checkFromUpTo, start, sheetUpTo, againstUpTo, checkUpTo}
+use Rattle.sheets.specs.Promise.{numbersOf, writtenOf, CheckPromiseUpTo, theList, heldBy, ShownOf, PreviewPromiseUpTo}
 use Rattle.sheets.specs.declared.Numbers.{Numbers}
 use Rattle.sheets.specs.declared.SheetFault.{SheetFault}
 use Rattle.sheets.specs.declared.Checked.the-variants.{Unread, Short}
@@ -28,84 +28,85 @@ use Rattle.sheets.specs.declared.Progress.{Progress}
 use Rattle.sheets.specs.declared.Step.{Step}
 use Rattle.sheets.specs.declared.Step.the-variants.{Stop, Count, Place}
 
-pub record Fits (room : ℕ) (o : Outcome) : Type 0 where
-  pub few : o .entries ≤ 64
-  pub fits : o .entries ≤ room
-  -- what is written is a copy of so many bytes, accepted or not
-  pub copied : (old : List ℕ) → take (o .entries) (o .colours) ++ drop (o .entries) old ≡ writtenOf o old
+module _ (most longest : ℕ) where
+  pub record Fits (room : ℕ) (o : Outcome) : Type 0 where
+    pub few : o .entries ≤ most
+    pub fits : o .entries ≤ room
+    -- what is written is a copy of so many bytes, accepted or not
+    pub copied : (old : List ℕ) → take (o .entries) (o .colours) ++ drop (o .entries) old ≡ writtenOf o old
 
-refused-fits : (room : ℕ) (f : SheetFault) (k : ℕ) → Fits room (refused f k)
-refused-fits room f k = record { few = omega arith; fits = omega arith; copied = λ old. refl }
+  refused-fits : (room : ℕ) (f : SheetFault) (k : ℕ) → Fits room (refusedUpTo most f k)
+  refused-fits room f k = record { few = omega arith; fits = omega arith; copied = λ old. refl }
 
-module _ (room n : ℕ) (few : n ≤ 64) (fits : n ≤ room) (clash : ℕ → ℕ → Bool) where
-  finish-fits : (p : Progress) (m w : ℕ → Bool) (g : List ℕ) (k : ℕ) → Fits room (finish n p m w g k)
-  finish-fits p m w g k =
-      cond-cases (Fits room) (met p) _ _
-      (λ _. cond-cases (Fits room) (all n (λ j. w j || m j)) _ _ (λ _. record { few = few; fits = fits; copied = λ old. refl }) (λ _. refused-fits room _ k))
-      (λ _. refused-fits room _ k)
+  module _ (room n : ℕ) (few : n ≤ most) (fits : n ≤ room) (clash : ℕ → ℕ → Bool) where
+    finish-fits : (p : Progress) (m w : ℕ → Bool) (g : List ℕ) (k : ℕ) → Fits room (finishUpTo most n p m w g k)
+    finish-fits p m w g k =
+        cond-cases (Fits room) (met p) _ _
+        (λ _. cond-cases (Fits room) (all n (λ j. w j || m j)) _ _ (λ _. record { few = few; fits = fits; copied = λ old. refl }) (λ _. refused-fits room _ k))
+        (λ _. refused-fits room _ k)
 
-  from-fits : (t : Text) (k : ℕ) (p : Progress) (m w : ℕ → Bool) (g : List ℕ) → Fits room (checkFrom t n clash k p m w g)
-  from-fits done k p m w g = finish-fits p m w g k
-  from-fits (unended l) k p m w g = cond-cases (Fits room) (met p) _ _ (λ _. refused-fits room _ k) (λ _. refused-fits room _ k)
-  from-fits (ended l t) k p m w g = go (stepOf n clash p m w l) (from-fits t (k + 1))
+    from-fits : (t : Text) (k : ℕ) (p : Progress) (m w : ℕ → Bool) (g : List ℕ) → Fits room (checkFromUpTo most t n clash k p m w g)
+    from-fits done k p m w g = finish-fits p m w g k
+    from-fits (unended l) k p m w g = cond-cases (Fits room) (met p) _ _ (λ _. refused-fits room _ k) (λ _. refused-fits room _ k)
+    from-fits (ended l t) k p m w g = go (stepOf n clash p m w l) (from-fits t (k + 1))
+      where
+        go : (st : Step) → ((p : Progress) (m w : ℕ → Bool) (g : List ℕ) → Fits room (checkFromUpTo most t n clash (k + 1) p m w g)) → Fits room (afterUpTo most st k m w g (checkFromUpTo most t n clash (k + 1)))
+        go (Stop f) r = refused-fits room f k
+        go (Count q) r = r q _ _ g
+        go (Place q i c) r = r q _ w _
+
+    sheet-fits : (s : List ℕ) → Fits room (sheetUpTo most longest n clash s)
+    sheet-fits s = cond-cases (Fits room) (leb (length s) longest) _ _ (λ _. from-fits (linesOf s) 1 start none none (noColoursUpTo most)) (λ _. refused-fits room _ 0)
+
+  pub check-fits : (list s : List ℕ) (room : ℕ) → Fits room (checkUpTo most longest list s room)
+  check-fits list s room = go (readUpTo most longest list most .answer) (read-up-to-few most longest list most)
     where
-      go : (st : Step) → ((p : Progress) (m w : ℕ → Bool) (g : List ℕ) → Fits room (checkFrom t n clash (k + 1) p m w g)) → Fits room (after st k m w g (checkFrom t n clash (k + 1)))
-      go (Stop f) r = refused-fits room f k
-      go (Count q) r = r q _ _ g
-      go (Place q i c) r = r q _ w _
+      go : (a : Reading) → Bounded most a → Fits room (againstUpTo most longest a (readUpTo most longest list most .rows) s room)
+      go (Unreadable f k) b = record { few = omega arith; fits = omega arith; copied = λ old. refl }
+      go (Read n) b =
+          cond-cases (Fits room) (leb n room) _ _ (λ e. sheet-fits room n b (leb-true n room e) (matrix (readUpTo most longest list most .rows)) s)
+          (λ _. record { few = omega arith; fits = omega arith; copied = λ old. refl })
 
-  sheet-fits : (s : List ℕ) → Fits room (sheetOf n clash s)
-  sheet-fits s = cond-cases (Fits room) (leb (length s) 65536) _ _ (λ _. from-fits (linesOf s) 1 start none none noColours) (λ _. refused-fits room _ 0)
+  -- the promise of `check_sheet`, from what was found and copied
+  pub check-handed : (list s old new : List ℕ) (o : Outcome) → o ≡ checkUpTo most longest list s (length old) → new ≡ take (o .entries) (o .colours) ++ drop (o .entries) old
+      → CheckPromiseUpTo most longest list s old (o .answer) new
+  check-handed list s old new o e w = record {
+    answer = ap (λ (x : Outcome). x .answer) e;
+    lent = w ∙ ap (λ (x : Outcome). take (x .entries) (x .colours) ++ drop (x .entries) old) e ∙ check-fits list s (length old) .copied old;
+  }
 
-pub check-fits : (list s : List ℕ) (room : ℕ) → Fits room (checkOf list s room)
-check-fits list s room = go (readOf list 64 .answer) (read-few list 64)
-  where
-    go : (a : Reading) → Bounded 64 a → Fits room (against a (readOf list 64 .rows) s room)
-    go (Unreadable f k) b = record { few = omega arith; fits = omega arith; copied = λ old. refl }
-    go (Read n) b =
-        cond-cases (Fits room) (leb n room) _ _ (λ e. sheet-fits room n b (leb-true n room e) (matrix (readOf list 64 .rows)) s)
-        (λ _. record { few = omega arith; fits = omega arith; copied = λ old. refl })
+  -- the part that is shown, from the numbers of the answer
+  module _ (list s : RefT (List ℕ)) (room : ℕ) (o : Outcome) (m : Numbers) (r : RefT (List ℕ)) (e : o ≡ checkUpTo most longest (now list) (now s) room) (f : m ≡ numbersOf (o .answer)) where
+    numbers-are : numbersOf (checkUpTo most longest (now list) (now s) room .answer) ≡ m
+    numbers-are = sym (f ∙ ap (λ (x : Outcome). numbersOf (x .answer)) e)
 
--- the promise of `check_sheet`, from what was found and copied
-pub check-handed : (list s old new : List ℕ) (o : Outcome) → o ≡ checkOf list s (length old) → new ≡ take (o .entries) (o .colours) ++ drop (o .entries) old
-    → CheckPromise list s old (o .answer) new
-check-handed list s old new o e w = record {
-  answer = ap (λ (x : Outcome). x .answer) e;
-  lent = w ∙ ap (λ (x : Outcome). take (x .entries) (x .colours) ++ drop (x .entries) old) e ∙ check-fits list s (length old) .copied old;
-}
+    pub preview-list : m .text ≡ theList → ShownOf list (m .line) r → PreviewPromiseUpTo most longest list s room r
+    preview-list t x =
+        subst (λ (y : Numbers). ShownOf (heldBy (y .text) list s) (y .line) r) (sym numbers-are)
+        (subst (λ (b : Bool). ShownOf (cond b list s) (m .line) r) (sym (eq-eqb (m .text) theList t)) x)
 
--- the part that is shown, from the numbers of the answer
-module _ (list s : RefT (List ℕ)) (room : ℕ) (o : Outcome) (m : Numbers) (r : RefT (List ℕ)) (e : o ≡ checkOf (now list) (now s) room) (f : m ≡ numbersOf (o .answer)) where
-  numbers-are : numbersOf (checkOf (now list) (now s) room .answer) ≡ m
-  numbers-are = sym (f ∙ ap (λ (x : Outcome). numbersOf (x .answer)) e)
+    pub preview-sheet : (m .text ≡ theList → ⊥) → ShownOf s (m .line) r → PreviewPromiseUpTo most longest list s room r
+    preview-sheet t x =
+        subst (λ (y : Numbers). ShownOf (heldBy (y .text) list s) (y .line) r) (sym numbers-are)
+        (subst (λ (b : Bool). ShownOf (cond b list s) (m .line) r) (sym (ne-eqb (m .text) theList t)) x)
 
-  pub preview-list : m .text ≡ theList → ShownOf list (m .line) r → PreviewPromise list s room r
-  preview-list t x =
-      subst (λ (y : Numbers). ShownOf (heldBy (y .text) list s) (y .line) r) (sym numbers-are)
-      (subst (λ (b : Bool). ShownOf (cond b list s) (m .line) r) (sym (eq-eqb (m .text) theList t)) x)
+  -- ---- the ways out of `check`
 
-  pub preview-sheet : (m .text ≡ theList → ⊥) → ShownOf s (m .line) r → PreviewPromise list s room r
-  preview-sheet t x =
-      subst (λ (y : Numbers). ShownOf (heldBy (y .text) list s) (y .line) r) (sym numbers-are)
-      (subst (λ (b : Bool). ShownOf (cond b list s) (m .line) r) (sym (ne-eqb (m .text) theList t)) x)
+  module _ (list s : List ℕ) (room : ℕ) (f : Found) (e : f ≡ readUpTo most longest list most) where
+    answer-is : {a : Reading} → f .answer ≡ a → readUpTo most longest list most .answer ≡ a
+    answer-is x = sym (ap (λ (y : Found). y .answer) e) ∙ x
 
--- ---- the ways out of `check`
+    pub read-small : (n : ℕ) → f .answer ≡ Read n → n ≤ most
+    read-small n x = subst (Bounded most) (answer-is x) (read-up-to-few most longest list most)
 
-module _ (list s : List ℕ) (room : ℕ) (f : Found) (e : f ≡ readOf list 64) where
-  answer-is : {a : Reading} → f .answer ≡ a → readOf list 64 .answer ≡ a
-  answer-is x = sym (ap (λ (y : Found). y .answer) e) ∙ x
+    pub check-unread : (w : Fault) (k : ℕ) → f .answer ≡ Unreadable w k → checkUpTo most longest list s room ≡ withoutUpTo most (Unread w k)
+    check-unread w k x = ap (λ (a : Reading). againstUpTo most longest a (readUpTo most longest list most .rows) s room) (answer-is x)
 
-  pub read-small : (n : ℕ) → f .answer ≡ Read n → n ≤ 64
-  read-small n x = subst (Bounded 64) (answer-is x) (read-few list 64)
+    pub check-few : (n : ℕ) → f .answer ≡ Read n → room < n → checkUpTo most longest list s room ≡ withoutUpTo most Short
+    check-few n x l = ap (λ (a : Reading). againstUpTo most longest a (readUpTo most longest list most .rows) s room) (answer-is x) ∙ rw (lt-leb n room l)
 
-  pub check-unread : (w : Fault) (k : ℕ) → f .answer ≡ Unreadable w k → checkOf list s room ≡ without (Unread w k)
-  check-unread w k x = ap (λ (a : Reading). against a (readOf list 64 .rows) s room) (answer-is x)
-
-  pub check-few : (n : ℕ) → f .answer ≡ Read n → room < n → checkOf list s room ≡ without Short
-  check-few n x l = ap (λ (a : Reading). against a (readOf list 64 .rows) s room) (answer-is x) ∙ rw (lt-leb n room l)
-
-  pub check-read : (n : ℕ) → f .answer ≡ Read n → n ≤ room → checkOf list s room ≡ sheetOf n (matrix (f .rows)) s
-  check-read n x l =
-      ap (λ (a : Reading). against a (readOf list 64 .rows) s room) (answer-is x)
-      ∙ ap (λ (b : Bool). cond b (sheetOf n (matrix (readOf list 64 .rows)) s) (without Short)) (le-leb n room l)
-      ∙ sym (ap (λ (y : Found). sheetOf n (matrix (y .rows)) s) e)
+    pub check-read : (n : ℕ) → f .answer ≡ Read n → n ≤ room → checkUpTo most longest list s room ≡ sheetUpTo most longest n (matrix (f .rows)) s
+    check-read n x l =
+        ap (λ (a : Reading). againstUpTo most longest a (readUpTo most longest list most .rows) s room) (answer-is x)
+        ∙ ap (λ (b : Bool). cond b (sheetUpTo most longest n (matrix (readUpTo most longest list most .rows)) s) (withoutUpTo most Short)) (le-leb n room l)
+        ∙ sym (ap (λ (y : Found). sheetUpTo most longest n (matrix (y .rows)) s) e)

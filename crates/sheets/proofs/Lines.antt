@@ -20,7 +20,7 @@ use Rattle.lines.specs.Part.{PartOf}
 use Rattle.lines.proofs.Basics.{cond-cases}
 use Rattle.lines.proofs.Lines.{line-ended, line-unended, next-mid, next-end, place-le}
 use Rattle.refusals.specs.Table.{told}
-use Rattle.lists.specs.Read.{stepOf as stepList, after as afterList, readFrom, readOf, edgeOf, inside as insideList, start as startList, noRows}
+use Rattle.lists.specs.Read.{stepUpTo as stepList, afterUpTo as afterList, readFromUpTo, readUpTo, edgeOf, inside as insideList, start as startList, noRowsUpTo}
 use Rattle.lists.specs.Shape.{shapeOf}
 use Rattle.lists.specs.declared.Fault.{Fault}
 use Rattle.lists.specs.declared.Fault.the-variants.{Line as NoLine, Headless, Second, Size, Vertex, Loop, Count as Counted, Room, Long as TooLong}
@@ -32,8 +32,8 @@ use Rattle.lists.specs.declared.Shape.{Shape}
 use Rattle.lists.specs.declared.Shape.the-variants.{Comment, P, E, Bad}
 use Rattle.lists.specs.declared.Step.{Step as ListStep}
 use Rattle.lists.specs.declared.Step.the-variants.{Stop as StopList, Go, Edge}
-use Rattle.sheets.specs.Check.{noColours, groupsWord, sizeWord, behindOf, groupsOf, sizeOf, memberOf, stepOf, met, none, after, checkFrom, start, sheetOf, against, checkOf}
-use Rattle.sheets.specs.Promise.{refusalOf, heldBy, numbersOf, ShownOf, PreviewPromise}
+use Rattle.sheets.specs.Check.{noColoursUpTo, groupsWord, sizeWord, behindOf, groupsOf, sizeOf, memberOf, stepOf, met, none, afterUpTo, checkFromUpTo, start, sheetUpTo, againstUpTo, checkUpTo}
+use Rattle.sheets.specs.Promise.{refusalOf, heldBy, numbersOf, ShownOf, PreviewPromiseUpTo}
 use Rattle.sheets.proofs.Fold.{check-short}
 use Rattle.sheets.specs.declared.SheetFault.{SheetFault}
 use Rattle.sheets.specs.declared.SheetFault.the-variants.{Long, Line, Member, Order, Twice, Clash, Ends, Missing, Extra}
@@ -69,28 +69,29 @@ edge-enough h u v =
     (λ _. cond-cases Enough (insideList (h .n) v) _ _ (λ _. cond-cases Enough (eqb u v) _ _ (λ _ k. tt) (λ _. tt)) (λ _ k. tt))
     (λ _ k. tt)
 
--- n is at most 64, and so many rows are lent
-step-enough : (h : Head) (s : Shape) → Enough (stepList h 64 s)
-step-enough h Bad = λ k. tt
-step-enough h Comment = tt
-step-enough h (P n m) =
-    cond-cases Enough (h .seen) _ _ (λ _ k. tt)
-    (λ _. cond-cases Enough (leb n 64) _ _ (λ e. rw e tt) (λ _ k. tt))
-step-enough h (E u v) = cond-cases Enough (h .seen) _ _ (λ _. edge-enough h u v) (λ _ k. tt)
+module _ (most : ℕ) where
+  -- n is at most the most entries, and so many rows are lent
+  step-enough : (h : Head) (s : Shape) → Enough (stepList most h most s)
+  step-enough h Bad = λ k. tt
+  step-enough h Comment = tt
+  step-enough h (P n m) =
+      cond-cases Enough (h .seen) _ _ (λ _ k. tt)
+      (λ _. cond-cases Enough (leb n most) _ _ (λ e. rw e tt) (λ _ k. tt))
+  step-enough h (E u v) = cond-cases Enough (h .seen) _ _ (λ _. edge-enough h u v) (λ _ k. tt)
 
-from-roomy : (t : Text) (k : ℕ) (h : Head) (g : List ℕ) → Roomy (readFrom t 64 k h g .answer)
-from-roomy done k h g =
-    cond-cases (λ (x : Found). Roomy (x .answer)) (h .seen) _ _ (λ _. cond-cases (λ (x : Found). Roomy (x .answer)) (eqb (h .count) (h .m)) _ _ (λ _. tt) (λ _. tt)) (λ _. tt)
-from-roomy (unended l) k h g = tt
-from-roomy (ended l t) k h g = go (stepList h 64 (shapeOf l)) (step-enough h (shapeOf l)) (from-roomy t (k + 1))
-  where
-    go : (st : ListStep) → Enough st → ((h : Head) (g : List ℕ) → Roomy (readFrom t 64 (k + 1) h g .answer)) → Roomy (afterList st g k (readFrom t 64 (k + 1)) .answer)
-    go (StopList f) e r = e k
-    go (Go h) e r = r h g
-    go (Edge h i j) e r = r h _
+  from-roomy : (t : Text) (k : ℕ) (h : Head) (g : List ℕ) → Roomy (readFromUpTo most t most k h g .answer)
+  from-roomy done k h g =
+      cond-cases (λ (x : Found). Roomy (x .answer)) (h .seen) _ _ (λ _. cond-cases (λ (x : Found). Roomy (x .answer)) (eqb (h .count) (h .m)) _ _ (λ _. tt) (λ _. tt)) (λ _. tt)
+  from-roomy (unended l) k h g = tt
+  from-roomy (ended l t) k h g = go (stepList most h most (shapeOf l)) (step-enough h (shapeOf l)) (from-roomy t (k + 1))
+    where
+      go : (st : ListStep) → Enough st → ((h : Head) (g : List ℕ) → Roomy (readFromUpTo most t most (k + 1) h g .answer)) → Roomy (afterList most st g k (readFromUpTo most t most (k + 1)) .answer)
+      go (StopList f) e r = e k
+      go (Go h) e r = r h g
+      go (Edge h i j) e r = r h _
 
-read-roomy : (s : List ℕ) → Roomy (readOf s 64 .answer)
-read-roomy s = cond-cases (λ (x : Found). Roomy (x .answer)) (leb (length s) 65536) _ _ (λ _. from-roomy (linesOf s) 1 startList noRows) (λ _. tt)
+  read-roomy : (longest : ℕ) (s : List ℕ) → Roomy (readUpTo most longest s most .answer)
+  read-roomy longest s = cond-cases (λ (x : Found). Roomy (x .answer)) (leb (length s) longest) _ _ (λ _. from-roomy (linesOf s) 1 startList (noRowsUpTo most)) (λ _. tt)
 
 -- ---- the line that is named
 
@@ -136,7 +137,7 @@ InLine (Stop f) = (k e : ℕ) → k < e → Spot f k e k
 InLine (Count p) = Unit {0}
 InLine (Place p i g) = Unit {0}
 
-module _ (n : ℕ) (clash : ℕ → ℕ → Bool) where
+module _ (most n : ℕ) (clash : ℕ → ℕ → Bool) where
   groups-in : (a : Alone) → InLine (groupsOf a)
   groups-in Other = λ k e h. (omega arith, h)
   groups-in (Only u) = tt
@@ -162,22 +163,22 @@ module _ (n : ℕ) (clash : ℕ → ℕ → Bool) where
       (λ _. cond-cases InLine (leb 1 (p .left)) _ _ (λ _. size-in p (behindOf sizeWord l)) (λ _ k e h. (omega arith, h))))
       (λ _. groups-in (behindOf groupsWord l))
 
-  from-names : (t : Text) (k : ℕ) (p : Progress) (m w : ℕ → Bool) (g : List ℕ) → Names k (k + lineCount t) (checkFrom t n clash k p m w g .answer)
+  from-names : (t : Text) (k : ℕ) (p : Progress) (m w : ℕ → Bool) (g : List ℕ) → Names k (k + lineCount t) (checkFromUpTo most t n clash k p m w g .answer)
   from-names done k p m w g =
       let N : Outcome → Type 0 = λ o. Names k (k + 0) (o .answer) in
       cond-cases N (met p) _ _ (λ _. cond-cases N (all n (λ j. w j || m j)) _ _ (λ _. tt) (λ _. omega arith)) (λ _. omega arith)
   from-names (unended l) k p m w g = cond-cases (λ (o : Outcome). Names k (k + 1) (o .answer)) (met p) _ _ (λ _. (omega arith, omega arith)) (λ _. (omega arith, omega arith))
   from-names (ended l t) k p m w g = go (stepOf n clash p m w l) (step-in p m w l) (from-names t (k + 1))
     where
-      go : (st : Step) → InLine st → ((p : Progress) (m w : ℕ → Bool) (g : List ℕ) → Names (k + 1) (k + 1 + lineCount t) (checkFrom t n clash (k + 1) p m w g .answer))
-          → Names k (k + suc (lineCount t)) (after st k m w g (checkFrom t n clash (k + 1)) .answer)
+      go : (st : Step) → InLine st → ((p : Progress) (m w : ℕ → Bool) (g : List ℕ) → Names (k + 1) (k + 1 + lineCount t) (checkFromUpTo most t n clash (k + 1) p m w g .answer))
+          → Names k (k + suc (lineCount t)) (afterUpTo most st k m w g (checkFromUpTo most t n clash (k + 1)) .answer)
       go (Stop f) i r = i k (k + suc (lineCount t)) (omega arith)
-      go (Count q) i r = names-later (checkFrom t n clash (k + 1) q none (λ j. w j || m j) g .answer) k (k + 1) (k + 1 + lineCount t) (k + suc (lineCount t)) (omega arith) (omega arith) (r q none (λ j. w j || m j) g)
-      go (Place q x c) i r = names-later (checkFrom t n clash (k + 1) q (λ j. m j || eqb x j) w (set g x c) .answer) k (k + 1) (k + 1 + lineCount t) (k + suc (lineCount t)) (omega arith) (omega arith) (r q (λ j. m j || eqb x j) w (set g x c))
+      go (Count q) i r = names-later (checkFromUpTo most t n clash (k + 1) q none (λ j. w j || m j) g .answer) k (k + 1) (k + 1 + lineCount t) (k + suc (lineCount t)) (omega arith) (omega arith) (r q none (λ j. w j || m j) g)
+      go (Place q x c) i r = names-later (checkFromUpTo most t n clash (k + 1) q (λ j. m j || eqb x j) w (set g x c) .answer) k (k + 1) (k + 1 + lineCount t) (k + suc (lineCount t)) (omega arith) (omega arith) (r q (λ j. m j || eqb x j) w (set g x c))
 
   -- a sheet that is not too long: 35 and 36 name the number of lines plus one, any other fault one of its lines, from 1
-  pub sheet-names : (s : List ℕ) → length s ≤ 65536 → Names 1 (1 + lineCount (linesOf s)) (sheetOf n clash s .answer)
-  sheet-names s h = subst (λ (o : Outcome). Names 1 (1 + lineCount (linesOf s)) (o .answer)) (check-short s n clash h) (from-names (linesOf s) 1 start none none noColours)
+  pub sheet-names : (longest : ℕ) (s : List ℕ) → length s ≤ longest → Names 1 (1 + lineCount (linesOf s)) (sheetUpTo most longest n clash s .answer)
+  sheet-names longest s h = subst (λ (o : Outcome). Names 1 (1 + lineCount (linesOf s)) (o .answer)) (check-short most s n clash longest h) (from-names (linesOf s) 1 start none none (noColoursUpTo most))
 
 -- ---- the part that is shown at an end
 
@@ -255,53 +256,54 @@ names-ending (Unread f j) k e h = tt
 names-ending Short k e h = tt
 names-ending (Refused f j) k e h = spot-tail f k e j h
 
-check-ending : (list s : List ℕ) (room : ℕ) → Ending (suc (lineCount (linesOf s))) (checkOf list s room .answer)
-check-ending list s room = go (readOf list 64 .answer)
-  where
-    go : (a : Reading) → Ending (suc (lineCount (linesOf s))) (against a (readOf list 64 .rows) s room .answer)
-    go (Unreadable f j) = tt
-    go (Read n) =
-        let E : Outcome → Type 0 = λ o. Ending (suc (lineCount (linesOf s))) (o .answer) in
-        let clash = matrix (readOf list 64 .rows) in
-        let z : 1 + lineCount (linesOf s) ≡ suc (lineCount (linesOf s)) = omega arith in
-        cond-cases E (leb n room) _ _
-        (λ _. cond-cases E (leb (length s) 65536) _ _
-        (λ _. subst (λ (e : ℕ). Ending e (checkFrom (linesOf s) n clash 1 start none none noColours .answer)) z (names-ending (checkFrom (linesOf s) n clash 1 start none none noColours .answer) 1 (1 + lineCount (linesOf s)) (from-names n clash (linesOf s) 1 start none none noColours)))
-        (λ _. tt))
-        (λ _. tt)
+module _ (most longest : ℕ) where
+  check-ending : (list s : List ℕ) (room : ℕ) → Ending (suc (lineCount (linesOf s))) (checkUpTo most longest list s room .answer)
+  check-ending list s room = go (readUpTo most longest list most .answer)
+    where
+      go : (a : Reading) → Ending (suc (lineCount (linesOf s))) (againstUpTo most longest a (readUpTo most longest list most .rows) s room .answer)
+      go (Unreadable f j) = tt
+      go (Read n) =
+          let E : Outcome → Type 0 = λ o. Ending (suc (lineCount (linesOf s))) (o .answer) in
+          let clash = matrix (readUpTo most longest list most .rows) in
+          let z : 1 + lineCount (linesOf s) ≡ suc (lineCount (linesOf s)) = omega arith in
+          cond-cases E (leb n room) _ _
+          (λ _. cond-cases E (leb (length s) longest) _ _
+          (λ _. subst (λ (e : ℕ). Ending e (checkFromUpTo most (linesOf s) n clash 1 start none none (noColoursUpTo most) .answer)) z (names-ending (checkFromUpTo most (linesOf s) n clash 1 start none none (noColoursUpTo most) .answer) 1 (1 + lineCount (linesOf s)) (from-names most n clash (linesOf s) 1 start none none (noColoursUpTo most))))
+          (λ _. tt))
+          (λ _. tt)
 
--- for them the empty part at the sheet's end is shown
-module _ (list s : RefT (List ℕ)) (room : ℕ) (r : RefT (List ℕ)) (p : PreviewPromise list s room r) (j : ℕ) where
-  -- the table names a line for them
-  at-end : (f : SheetFault) → told (refusalOf f) j .line ≡ j → checkOf (now list) (now s) room .answer ≡ Refused f j
-      → j ≡ suc (lineCount (linesOf (now s))) → PartOf s (length (now s)) (length (now s)) r
-  at-end f n e z =
-      let x = subst (λ (a : Checked). ShownOf (heldBy (numbersOf a .text) list s) (numbersOf a .line) r) e p in
-      shown-end s r (subst (λ (k : ℕ). ShownOf s k r) (n ∙ z) x)
+  -- for them the empty part at the sheet's end is shown
+  module _ (list s : RefT (List ℕ)) (room : ℕ) (r : RefT (List ℕ)) (p : PreviewPromiseUpTo most longest list s room r) (j : ℕ) where
+    -- the table names a line for them
+    at-end : (f : SheetFault) → told (refusalOf f) j .line ≡ j → checkUpTo most longest (now list) (now s) room .answer ≡ Refused f j
+        → j ≡ suc (lineCount (linesOf (now s))) → PartOf s (length (now s)) (length (now s)) r
+    at-end f n e z =
+        let x = subst (λ (a : Checked). ShownOf (heldBy (numbersOf a .text) list s) (numbersOf a .line) r) e p in
+        shown-end s r (subst (λ (k : ℕ). ShownOf s k r) (n ∙ z) x)
 
-  pub preview-ends : checkOf (now list) (now s) room .answer ≡ Refused Ends j → PartOf s (length (now s)) (length (now s)) r
-  preview-ends e = at-end Ends refl e (subst (Ending (suc (lineCount (linesOf (now s))))) e (check-ending (now list) (now s) room))
+    pub preview-ends : checkUpTo most longest (now list) (now s) room .answer ≡ Refused Ends j → PartOf s (length (now s)) (length (now s)) r
+    preview-ends e = at-end Ends refl e (subst (Ending (suc (lineCount (linesOf (now s))))) e (check-ending (now list) (now s) room))
 
-  pub preview-missing : checkOf (now list) (now s) room .answer ≡ Refused Missing j → PartOf s (length (now s)) (length (now s)) r
-  preview-missing e = at-end Missing refl e (subst (Ending (suc (lineCount (linesOf (now s))))) e (check-ending (now list) (now s) room))
+    pub preview-missing : checkUpTo most longest (now list) (now s) room .answer ≡ Refused Missing j → PartOf s (length (now s)) (length (now s)) r
+    preview-missing e = at-end Missing refl e (subst (Ending (suc (lineCount (linesOf (now s))))) e (check-ending (now list) (now s) room))
 
--- ---- 17 cannot arise
+  -- ---- 17 cannot arise
 
-abbrev Other-than : Checked → Outcome → Type 0
-Other-than a o = ¬ (o .answer ≡ a)
+  abbrev Other-than : Checked → Outcome → Type 0
+  Other-than a o = ¬ (o .answer ≡ a)
 
-pub never-room : (list s : List ℕ) (room k : ℕ) → ¬ (checkOf list s room .answer ≡ Unread Room k)
-never-room list s room k e = go (readOf list 64 .answer) (read-roomy list) e
-  where
-    fault-is : (f : Fault) (j : ℕ) → Roomy (Unreadable f j) → ¬ (Unread f j ≡ Unread Room k)
-    fault-is f j r e = let z : f ≡ Room = cc in subst (λ (x : Fault). Roomy (Unreadable x j)) z r
+  pub never-room : (list s : List ℕ) (room k : ℕ) → ¬ (checkUpTo most longest list s room .answer ≡ Unread Room k)
+  never-room list s room k e = go (readUpTo most longest list most .answer) (read-roomy most longest list) e
+    where
+      fault-is : (f : Fault) (j : ℕ) → Roomy (Unreadable f j) → ¬ (Unread f j ≡ Unread Room k)
+      fault-is f j r e = let z : f ≡ Room = cc in subst (λ (x : Fault). Roomy (Unreadable x j)) z r
 
-    go : (a : Reading) → Roomy a → Other-than (Unread Room k) (against a (readOf list 64 .rows) s room)
-    go (Unreadable f j) r = fault-is f j r
-    go (Read n) r =
-        let clash = matrix (readOf list 64 .rows) in
-        cond-cases (Other-than (Unread Room k)) (leb n room) _ _
-        (λ _. cond-cases (Other-than (Unread Room k)) (leb (length s) 65536) _ _
-        (λ _ e. subst (Names 1 (1 + lineCount (linesOf s))) e (from-names n clash (linesOf s) 1 start none none noColours))
-        (λ _ e. let z : _≡_ {A = ℕ} 0 1 = cc in omega arith))
-        (λ _ e. let z : _≡_ {A = ℕ} 0 1 = cc in omega arith)
+      go : (a : Reading) → Roomy a → Other-than (Unread Room k) (againstUpTo most longest a (readUpTo most longest list most .rows) s room)
+      go (Unreadable f j) r = fault-is f j r
+      go (Read n) r =
+          let clash = matrix (readUpTo most longest list most .rows) in
+          cond-cases (Other-than (Unread Room k)) (leb n room) _ _
+          (λ _. cond-cases (Other-than (Unread Room k)) (leb (length s) longest) _ _
+          (λ _ e. subst (Names 1 (1 + lineCount (linesOf s))) e (from-names most n clash (linesOf s) 1 start none none (noColoursUpTo most)))
+          (λ _ e. let z : _≡_ {A = ℕ} 0 1 = cc in omega arith))
+          (λ _ e. let z : _≡_ {A = ℕ} 0 1 = cc in omega arith)

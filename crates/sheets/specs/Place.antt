@@ -24,8 +24,13 @@ faultPartUpTo most longest list s room =
     let m = numbersOf (checkUpTo most longest list s room .answer) in
     partAt (m .text) (heldBy (m .text) list s) (m .line)
 
+abbrev pub PlacePromiseUpTo : ℕ → ℕ → List ℕ → List ℕ → ℕ → Part → Type 0
+PlacePromiseUpTo most longest list s room p = p ≡ faultPartUpTo most longest list s room
+
+-- ---- today's limits
+
 abbrev pub faultPart : List ℕ → List ℕ → ℕ → Part
 faultPart list s room = faultPartUpTo mostEntries longestText list s room
 
 abbrev pub PlacePromise : List ℕ → List ℕ → ℕ → Part → Type 0
-PlacePromise list s room p = p ≡ faultPart list s room
+PlacePromise list s room p = PlacePromiseUpTo mostEntries longestText list s room p

@@ -5,18 +5,18 @@ use native.Mathlib.Omega.{arith}
 use Rattle.clashes.specs.Divisions.{groups}
 use Rattle.sheet_texts.specs.Sheet.{sheetText}
 use Rattle.sheet_texts.proofs.FirstUse.{groups-fit}
-use Rattle.sheet_texts.proofs.Members.{sheet-short}
+use Rattle.sheet_texts.proofs.Lengths.{sheet-most}
 use Rattle.sheet_texts.proofs.Writes.{composed}
 use borrow.Author.Needs.{needs}
 use Rattle.sheet_texts.proofs.compose.Statement.{statement}
 use Rattle.sheet_texts.proofs.compose.Tie as tie
 
 -- at most 64 groups, and a text that fits
-fits : (c : tie.Start) → let s = c .args .colours .now in (groups 0 s ≤ 64) × (length (sheetText s) ≤ 714)
+fits : (c : tie.Start) → let s = c .args .colours .now in (groups 0 s ≤ 64) × (length (sheetText s) ≤ 641)
 fits c =
     let s = c .args .colours .now in
     let g : groups 0 s ≤ 64 = omega (arith, groups-fit 0 s (c .pre .1), c .pre .0) in
-    (g, sheet-short s (c .pre .0) g)
+    (g, sheet-most s (c .pre .1) (c .pre .0))
 
 slice-aggregate-put-sheet : tie.Need-slice-aggregate-put-sheet
 slice-aggregate-put-sheet c = search needs
