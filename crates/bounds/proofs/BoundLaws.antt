@@ -68,7 +68,8 @@ module _ (n : ℕ) (clash : ℕ → ℕ → Bool) (v : Valid n clash) (k : ℕ) 
   lower-chromatic : (b : ℕ) → Lower n (live n (graph n clash)) (graph n clash .adj) b → b ≤ k
   lower-chromatic b l =
       le-trans (l (c .colouring) (λ x y p q t. c .proper x y p q (graph-clash n clash x y t .2)))
-      (le-trans (noDup-le (distinct ℤ-discrete [] (map (c .colouring) vs)) (distinct ℤ-discrete [] (table (c .colouring) n)) (distinct-noDup ℤ-discrete [] (map (c .colouring) vs) tt) sub)
+      (le-trans (noDup-le (distinct ℤ-discrete [] (map (c .colouring) vs)) (distinct ℤ-discrete [] (table (c .colouring) n))
+      (distinct-noDup ℤ-discrete [] (map (c .colouring) vs) tt) sub)
       (le-of-eq (c .size)))
     where
       vs : List ℕ

@@ -9,7 +9,7 @@ use lib.Dec.{leb}
 use borrow.Author.Tests.{le-leb, lt-leb}
 use Rattle.sets.specs.Set.{size}
 use Rattle.graphs.specs.Graph.{Graph}
-use Rattle.graphs.specs.Held.{view, Held}
+use Rattle.graphs.specs.Held.{view, HeldAt}
 use Rattle.graphs.specs.declared.Node.{Node}
 use Rattle.graphs.proofs.HeldLaws.{held-vertices}
 use Rattle.graphs.proofs.LoopLaws.{size-le}
@@ -22,30 +22,30 @@ use Rattle.mycielski.specs.Words.{Climbs}
 use Rattle.bounds.specs.Names.{cliqueBound, mycielskian, clique-is, mycielskian-is}
 use Rattle.bounds.proofs.BoundLaws.{mycielskian-vertices}
 
-module _ (h : Node) (k : Held h) where
+module _ {cap : ℕ} (h : Node) (k : HeldAt cap h) where
   abbrev g : Graph
   g = view h
 
   abbrev n : ℕ
   n = h .n
 
-  pub clique-size : (w : ℕ) → IsSetOf (clique n g) w → size 64 w ≡ cliqueBound n g
-  clique-size w q = size-length n g (clique n g) w (k .few) (cliques.clique-is n g (k .good)) q ∙ sym (clique-is n g)
+  pub clique-size : (w : ℕ) → IsSetOf (clique n g) w → size cap w ≡ cliqueBound n g
+  clique-size w q = size-length cap n g (clique n g) w (k .few) (cliques.clique-is n g (k .good)) q ∙ sym (clique-is n g)
 
   -- no bound is above the number of live vertices
-  most : mycielskian n g ≤ size 64 (h .live)
+  most : mycielskian n g ≤ size cap (h .live)
   most = le-trans (mycielskian-vertices n g (k .good)) (le-of-eq (sym (held-vertices h k)))
 
-  -- what could only be reached above 64 is the whole
-  pub climbs-whole : {enough r : ℕ} → Climbs (Rounds.mycielskian n g) enough r → 64 < enough → r ≡ mycielskian n g
-  climbs-whole c l = c .whole (omega (arith, c .most, mycielskian-is n g, most, size-le 64 (h .live))) ∙ sym (mycielskian-is n g)
+  -- what could only be reached above the limit is the bound itself
+  pub climbs-exact : {enough r : ℕ} → Climbs (Rounds.mycielskian n g) enough r → cap < enough → r ≡ mycielskian n g
+  climbs-exact c l = c .exact (omega (arith, c .most, mycielskian-is n g, most, size-le cap (h .live))) ∙ sym (mycielskian-is n g)
 
   pub climbs-reach : (best r : ℕ) → Climbs (Rounds.mycielskian n g) best r → leb best r ≡ leb best (mycielskian n g)
   climbs-reach best r c = go (decLt r best)
     where
       go : Dec (r < best) → leb best r ≡ leb best (mycielskian n g)
-      go (yes l) = ap (leb best) (c .whole l ∙ sym (mycielskian-is n g))
+      go (yes l) = ap (leb best) (c .exact l ∙ sym (mycielskian-is n g))
       go (no l) = le-leb best r (omega arith) ∙ sym (le-leb best (mycielskian n g) (omega (arith, c .most, mycielskian-is n g)))
 
-  pub few-reach : (best : ℕ) → size 64 (h .live) < best → false ≡ leb best (mycielskian n g)
+  pub few-reach : (best : ℕ) → size cap (h .live) < best → false ≡ leb best (mycielskian n g)
   few-reach best l = sym (lt-leb best (mycielskian n g) (omega (arith, most)))

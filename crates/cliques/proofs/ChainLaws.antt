@@ -8,11 +8,10 @@ use mathlib.Core.List.{List, [], _∷_, _++_, map, append-assoc}
 use Prim.Native.Nat.{ℕ}
 use lib.Dec.{T}
 use Rattle.sets.specs.Lists.{In, NoDup, some?, over}
-use Rattle.sets.proofs.TestLaws.{T→true, T→false}
+use Rattle.sets.proofs.TestLaws.{or-false, T→true, T→false}
 use Rattle.sets.proofs.ListLaws.{In-append}
 use Rattle.sets.proofs.MemberLaws.{members-noDup}
 use Rattle.graphs.specs.Graph.{Graph, live, vertices}
-use Rattle.graphs.proofs.LoopLaws.{or-false}
 use Rattle.cliques.specs.Clique.{isIn, admits, joined, again, once, cliques}
 use Rattle.cliques.specs.Growth.{scan}
 use Rattle.cliques.proofs.ListLaws.{some-agree, some-append, some-map, map-append, map-same, map-map}
@@ -141,7 +140,8 @@ module _ (g : Graph) where
       go false r =
           ap (λ (l : List (List ℕ)). scan g (x ∷ []) vs ∷ l)
           (r (λ y. taken y || isIn y (scan g (x ∷ []) vs)) (fresh false)
-          (λ y j. ap₂ (λ (a b : Bool). a || b) (old y j) (sym (or-false (isIn y (scan g (x ∷ []) vs)))) ∙ sym (some-append (λ c. isIn y (scan g c vs)) (again g cs x) ((x ∷ []) ∷ []))))
+          (λ y j. ap₂ (λ (a b : Bool). a || b) (old y j) (sym (or-false (isIn y (scan g (x ∷ []) vs))))
+          ∙ sym (some-append (λ c. isIn y (scan g c vs)) (again g cs x) ((x ∷ []) ∷ []))))
 
   pub cliques-chain : (n : ℕ) → cliques n g ≡ map (λ c. scan g c (vertices n g)) (chain (λ x. false) (vertices n g))
   cliques-chain n =

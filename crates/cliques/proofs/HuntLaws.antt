@@ -18,11 +18,11 @@ use Rattle.sets.proofs.ListLaws.{noDup-le}
 use Rattle.sets.proofs.MemberLaws.{members-count, members-narrow, In-members, members-In}
 use Rattle.sets.proofs.SetLaws.{has-none}
 use Rattle.graphs.specs.Graph.{Graph, live, vertices}
-use Rattle.graphs.specs.Held.{view, Held}
+use Rattle.graphs.specs.Held.{view, HeldAt}
 use Rattle.graphs.specs.declared.Node.{Node}
 use Rattle.graphs.proofs.GraphLaws.{live-of, of-live, vertices-live}
 use Rattle.cliques.specs.Clique.{isIn, admits, clique, IsClique}
-use Rattle.cliques.specs.Growth.{IsSetOf, elements, scan, Grown, Grows, Within, after, first}
+use Rattle.cliques.specs.Growth.{IsSetOf, elements, scan, Grown, GrowsAt, Within, after, opening}
 use Rattle.cliques.specs.declared.Growth.{Growth}
 use Rattle.cliques.proofs.ListLaws.{of-in, members-at, larger, larger-le}
 use Rattle.cliques.proofs.ScanLaws.{scan-keeps, scan-from, scan-skip, scan-clique, alone-clique, empty-clique}
@@ -30,7 +30,7 @@ use Rattle.cliques.proofs.ChainLaws.{chain, chain-open, chain-agree, ch
 use Rattle.cliques.proofs.CliqueLaws.{second, clique-chain}
 use Rattle.cliques.proofs.WordLaws.{none-isIn, size-fewer, size-length, near-row, row-loop}
 
-module _ (h : Node) (k : Held h) where
+module _ {cap : ℕ} (h : Node) (k : HeldAt cap h) where
   abbrev g : Graph
   g = view h
 
@@ -42,10 +42,10 @@ module _ (h : Node) (k : Held h) where
 
   -- growing along a set that has all the vertices of vs that are admitted is growing along vs
   along : (c : List ℕ) (w : ℕ) (p : ℕ → Bool) → ((x : ℕ) → T (p x) → T (live n g x)) → ((x : ℕ) → T (has w x) → T (p x))
-      → ((x : ℕ) → T (p x) → T (admits g c x) → T (has w x)) → scan g c (elements w) ≡ scan g c (members p n)
+      → ((x : ℕ) → T (p x) → T (admits g c x) → T (has w x)) → scan g c (elements cap w) ≡ scan g c (members p n)
   unfolding elements
   along c w p l into from =
-      sym (scan-skip g c p (has w) 64 into from) ∙ ap (scan g c) (members-narrow p n 64 (k .few) (λ x b t. let c = live-below x (l x t) in let z : ⊥ = omega arith in z))
+      sym (scan-skip g c p (has w) cap into from) ∙ ap (scan g c) (members-narrow p n cap (k .few) (λ x b t. let c = live-below x (l x t) in let z : ⊥ = omega arith in z))
 
   -- ---- what s opens
 
@@ -60,14 +60,15 @@ module _ (h : Node) (k : Held h) where
     pub near-lives : Within m (h .live)
     near-lives x t = and-l (has (h .live) x) (has (getD (h .rows) s zero) x) (subst T (wm x) t)
 
-    pub opened-is : scan g (s ∷ []) (elements left) ≡ scan g (s ∷ []) (rest s)
+    pub opened-is : scan g (s ∷ []) (elements cap left) ≡ scan g (s ∷ []) (rest s)
     opened-is = along (s ∷ []) left (after s (live n g)) (λ x t. and-l (live n g x) (ltb s x) t) into from
       where
         into : (x : ℕ) → T (has left x) → T (after s (live n g) x)
         into x t =
             let u = left-near x t in
             let q = t-not (ltb x s) (subst (λ (c : Bool). T (not c)) (wb x) (and-r (has m x) (not (has b x)) (subst T (wl x) t))) in
-            let d : x ≢ s = λ e. row-loop h k s ls (subst (λ z. T (has (getD (h .rows) s zero) z)) e (and-r (has (h .live) x) (has (getD (h .rows) s zero) x) (subst T (wm x) u))) in
+            let d : x ≢ s = λ e. row-loop h k s ls
+            (subst (λ z. T (has (getD (h .rows) s zero) z)) e (and-r (has (h .live) x) (has (getD (h .rows) s zero) x) (subst T (wm x) u))) in
             and-t (live n g x) (ltb s x) (subst T (k .lives x) (near-lives x u)) (lt→ltb s x (above x d (λ l. q (lt→ltb x s l))))
           where
             above : (x : ℕ) → x ≢ s → (x < s → ⊥) → s < x
@@ -112,19 +113,19 @@ module _ (h : Node) (k : Held h) where
       i .kept-set x ∙ ap (isIn x) (sym (ap (λ (cs : List (List ℕ)). over larger (i .kept) (map (second n g) cs))
       (chain-none g (λ x. not (has 0 x)) (vertices n g) (λ x j. subst (λ (b : Bool). T (not b)) (sym (has-none x)) tt))) ∙ i .goal)
 
-  pub hunt-size : (free best : ℕ) → Hunt free best → size 64 best ≤ length (clique n g)
+  pub hunt-size : (free best : ℕ) → Hunt free best → size cap best ≤ length (clique n g)
   hunt-size free best i =
-      le-trans (le-of-eq (size-length n g (i .kept) best (k .few) (i .kept-is) (i .kept-set)))
+      le-trans (le-of-eq (size-length cap n g (i .kept) best (k .few) (i .kept-is) (i .kept-set)))
       (le-trans (larger-le (i .kept) (map (second n g) (chain g (λ x. not (has free x)) (vertices n g)))) (le-of-eq (ap length (i .goal))))
 
   pub near-live : (l : List ℕ) (c : Growth) → Grown n g l c → Within (c .near) (h .live)
   near-live l c e x t = subst T (sym (k .lives x)) (and-l (live n g x) (admits g l x) (subst T (e .near x) t))
 
   -- one turn
-  module _ (free best s free′ : ℕ) (c : Growth) (i : Hunt free best) (w : IsLowest 64 free s) (gc : Grown n g (first n g s) c)
+  module _ (free best s free′ : ℕ) (c : Growth) (i : Hunt free best) (w : IsLowest cap free s) (gc : Grown n g (opening n g s) c)
       (wf : IsLess free (c .set) free′) where
     abbrev own : List ℕ
-    own = first n g s
+    own = opening n g s
 
     live-s : T (live n g s)
     live-s = subst T (k .lives s) (i .free-live s (w .member))
@@ -132,12 +133,12 @@ module _ (h : Node) (k : Held h) where
     own-has-s : In s own
     own-has-s = scan-keeps g (s ∷ []) (rest s) s (inl refl)
 
-    pub hunt-less : size 64 free′ < size 64 free
+    pub hunt-less : size cap free′ < size cap free
     hunt-less =
-        size-fewer free free′ s (w .below) (λ x t. and-l (has free x) (not (has (c .set) x)) (subst T (wf x) t)) (w .member)
+        size-fewer cap free free′ s (w .below) (λ x t. and-l (has free x) (not (has (c .set) x)) (subst T (wf x) t)) (w .member)
         (λ t. t-not (has (c .set) s) (and-r (has free s) (not (has (c .set) s)) (subst T (wf s) t)) (subst T (sym (gc .members s)) (of-in s own own-has-s)))
 
-    second-is : scan g own (elements (c .near)) ≡ second n g own
+    second-is : scan g own (elements cap (c .near)) ≡ second n g own
     second-is =
         along own (c .near) (live n g) (λ x t. t) (λ x t. and-l (live n g x) (admits g own x) (subst T (gc .near x) t))
         (λ x t a. subst T (sym (gc .near x)) (and-t (live n g x) (admits g own x) t a))
@@ -177,11 +178,11 @@ module _ (h : Node) (k : Held h) where
     free-live′ : Within free′ (h .live)
     free-live′ x t = i .free-live x (and-l (has free x) (not (has (c .set) x)) (subst T (wf x) t))
 
-    size-kept : size 64 best ≡ length (i .kept)
-    size-kept = size-length n g (i .kept) best (k .few) (i .kept-is) (i .kept-set)
+    size-kept : size cap best ≡ length (i .kept)
+    size-kept = size-length cap n g (i .kept) best (k .few) (i .kept-is) (i .kept-set)
 
     -- it is no larger than the best
-    hunt-stays : length (second n g own) ≤ size 64 best → Hunt free′ best
+    hunt-stays : length (second n g own) ≤ size cap best → Hunt free′ best
     hunt-stays l = record {
       free-live = free-live′;
       kept = i .kept;
@@ -194,28 +195,28 @@ module _ (h : Node) (k : Held h) where
     }
 
     -- all that it has and admits would not make it larger
-    pub hunt-skip : (j : ℕ) → IsJoin (c .set) (c .near) j → size 64 j ≤ size 64 best → Hunt free′ best
+    pub hunt-skip : (j : ℕ) → IsJoin (c .set) (c .near) j → size cap j ≤ size cap best → Hunt free′ best
     unfolding elements
     hunt-skip j wj l =
-        hunt-stays (le-trans (noDup-le (second n g own) (members (has j) 64) (second-clique .once-each) there) (le-trans (le-of-eq (members-count (has j) 64)) l))
+        hunt-stays (le-trans (noDup-le (second n g own) (members (has j) cap) (second-clique .once-each) there) (le-trans (le-of-eq (members-count (has j) cap)) l))
       where
-        there : (x : ℕ) → In x (second n g own) → In x (members (has j) 64)
+        there : (x : ℕ) → In x (second n g own) → In x (members (has j) cap)
         there x m =
-            members-In (has j) 64 x (let b = second-clique .lives x m .below in let z : x < 64 = omega (arith, k .few) in z)
-            (subst T (sym (wj x)) (elim (scan-from g own (elements (c .near)) x (subst (λ (vs : List ℕ). In x vs) (sym second-is) m)) [
+            members-In (has j) cap x (let b = second-clique .lives x m .below in let z : x < cap = omega (arith, k .few) in z)
+            (subst T (sym (wj x)) (elim (scan-from g own (elements cap (c .near)) x (subst (λ (vs : List ℕ). In x vs) (sym second-is) m)) [
               | inl q ↦ or-l (has (c .set) x) (has (c .near) x) (subst T (sym (gc .members x)) (of-in x own q))
-              | inr q ↦ or-r (has (c .set) x) (has (c .near) x) (In-members (has (c .near)) 64 x q .1)
+              | inr q ↦ or-r (has (c .set) x) (has (c .near) x) (In-members (has (c .near)) cap x q .1)
             ]))
 
     -- it grows to d
-    module _ (d : Growth) (gd : Grows n g (c .near) c d) where
+    module _ (d : Growth) (gd : GrowsAt cap n g (c .near) c d) where
       second-set : IsSetOf (second n g own) (d .set)
       second-set = subst (λ l. IsSetOf l (d .set)) second-is (gd own gc .members)
 
-      size-second : size 64 (d .set) ≡ length (second n g own)
-      size-second = size-length n g (second n g own) (d .set) (k .few) second-clique second-set
+      size-second : size cap (d .set) ≡ length (second n g own)
+      size-second = size-length cap n g (second n g own) (d .set) (k .few) second-clique second-set
 
-      pub hunt-new : size 64 best < size 64 (d .set) → Hunt free′ (d .set)
+      pub hunt-new : size cap best < size cap (d .set) → Hunt free′ (d .set)
       hunt-new l = record {
         free-live = free-live′;
         kept = second n g own;
@@ -227,5 +228,5 @@ module _ (h : Node) (k : Held h) where
             ∙ turned;
       }
 
-      pub hunt-old : size 64 (d .set) ≤ size 64 best → Hunt free′ best
+      pub hunt-old : size cap (d .set) ≤ size cap best → Hunt free′ best
       hunt-old l = hunt-stays (omega (arith, size-second))

@@ -14,7 +14,7 @@ use lib.Dec.{T, eqb, ltb, leb, eqb→eq, eqb-refl, lt→ltb, ltb→lt}
 use lib.ListN.{length}
 use borrow.Author.Tests.{lt-ltb, le-ltb, le-leb, lt-leb}
 use Rattle.sets.specs.Lists.{In, NoDup, members, keep, every, some?, better, greatest, over}
-use Rattle.sets.proofs.TestLaws.{and-l, and-r, and-t, or-l, or-r, or-cases, T→true, and-true}
+use Rattle.sets.proofs.TestLaws.{and-l, and-r, and-t, and-true, or-l, or-r, or-cases, or-assoc, T→true}
 use Rattle.sets.proofs.ListLaws.{noDup-le}
 use Rattle.sets.proofs.MemberLaws.{members-none}
 use Rattle.cliques.specs.Clique.{isIn}
@@ -52,11 +52,7 @@ module _ {A : Type 0} where
 
   pub some-append : (p : A → Bool) (k l : List A) → some? p (k ++ l) ≡ (some? p k || some? p l)
   some-append p [] l = refl
-  some-append p (x ∷ k) l = ap (λ (b : Bool). p x || b) (some-append p k l) ∙ assoc (p x) (some? p k) (some? p l)
-    where
-      assoc : (a b c : Bool) → (a || (b || c)) ≡ ((a || b) || c)
-      assoc true b c = refl
-      assoc false b c = refl
+  some-append p (x ∷ k) l = ap (λ (b : Bool). p x || b) (some-append p k l) ∙ or-assoc (p x) (some? p k) (some? p l)
 
   pub some-map : {B : Type 0} (p : A → Bool) (f : B → A) (l : List B) → some? p (map f l) ≡ some? (λ x. p (f x)) l
   some-map p f [] = refl

@@ -101,7 +101,8 @@ module _ (g : Graph) where
       → ¬ T (q v) → ((x : ℕ) → T (q x) → T (p x)) → ((x : ℕ) → T (p x) → x ≢ v → T (admits g (v ∷ l) x) → T (q x))
       → scan g (v ∷ l) (members q n) ≡ scan g l (members p n)
   scan-lowest l p q v n b t f a u into from =
-      sym (scan-skip (v ∷ l) out q n (λ x s. and-t (p x) (not (eqb v x)) (into x s) (ne-of v x (λ e. u (rw e s)))) (λ x s. from x (and-l (p x) (not (eqb v x)) s) (λ e. of-ne v x (and-r (p x) (not (eqb v x)) s) (sym e))))
+      sym (scan-skip (v ∷ l) out q n (λ x s. and-t (p x) (not (eqb v x)) (into x s) (ne-of v x (λ e. u (rw e s))))
+      (λ x s. from x (and-l (p x) (not (eqb v x)) s) (λ e. of-ne v x (and-r (p x) (not (eqb v x)) s) (sym e))))
       ∙ ap (λ (d : List ℕ). scan g d (members out n)) (sym (joined-adds l v a))
       ∙ ap (scan g l) (sym (members-lowest n p out v b t f gone same))
     where

@@ -5,61 +5,52 @@ use mathlib.Core.Bool.{Bool, true, false, _&&_, _||_}
 use mathlib.Core.List.{List, [], _∷_}
 use Prim.Native.Nat.{ℕ, zero, _≤_, _<_}
 use native.Mathlib.Omega.{arith}
-use lib.Dec.{T, eqb, eqb→eq}
+use lib.Dec.{T, eqb}
 use lib.ListN.{length, getD}
 use Rattle.sets.specs.Lists.{upto, members}
 use Rattle.sets.specs.Set.{has, size, IsWith, IsMeet, IsLowest}
-use Rattle.sets.proofs.TestLaws.{and-l, and-r, and-t, T→true, T-ext, eqb-of}
+use Rattle.sets.proofs.TestLaws.{and-l, and-r, and-t, or-turn, T→true, T-ext, eqb-turn}
 use Rattle.sets.proofs.ListLaws.{count-lt, In-table}
 use Rattle.sets.proofs.MemberLaws.{members-count, members-none, In-members, members-In, members-noDup}
 use Rattle.sets.proofs.SetLaws.{has-none}
 use Rattle.graphs.specs.Graph.{Graph, live}
-use Rattle.graphs.specs.Held.{view, Held}
+use Rattle.graphs.specs.Held.{view, HeldAt}
 use Rattle.graphs.specs.declared.Node.{Node}
 use Rattle.cliques.specs.Clique.{isIn, admits, IsClique}
-use Rattle.cliques.specs.Growth.{IsSetOf, elements, scan, Grown, Grows, Within}
+use Rattle.cliques.specs.Growth.{IsSetOf, elements, scan, Grown, GrowsAt, Within}
 use Rattle.cliques.specs.declared.Growth.{Growth}
 use Rattle.cliques.proofs.ListLaws.{in-of, of-in, length-same}
 use Rattle.cliques.proofs.ScanLaws.{scan-lowest}
 
 -- ---- sets
 
-pub eqb-turn : (x y : ℕ) → eqb x y ≡ eqb y x
-eqb-turn x y = T-ext (eqb x y) (eqb y x) (λ t. eqb-of y x (sym (eqb→eq x y t))) (λ t. eqb-of x y (sym (eqb→eq y x t)))
-
 pub with-isIn : (c : List ℕ) (s v r : ℕ) → IsSetOf c s → IsWith s v r → IsSetOf (v ∷ c) r
-with-isIn c s v r p q x = q x ∙ ap₂ (λ (a b : Bool). a || b) (p x) (eqb-turn v x) ∙ turn (isIn x c) (eqb x v)
-  where
-    turn : (a b : Bool) → (a || b) ≡ (b || a)
-    turn true true = refl
-    turn true false = refl
-    turn false true = refl
-    turn false false = refl
+with-isIn c s v r p q x = q x ∙ ap₂ (λ (a b : Bool). a || b) (p x) (eqb-turn v x) ∙ or-turn (isIn x c) (eqb x v)
 
 pub none-isIn : IsSetOf [] 0
 none-isIn x = has-none x
 
 -- a set that lacks a member of another one, and has none that the other lacks, is smaller
-pub size-fewer : (s r v : ℕ) → v < 64 → Within r s → T (has s v) → ¬ T (has r v) → size 64 r < size 64 s
+pub size-fewer : (cap s r v : ℕ) → v < cap → Within r s → T (has s v) → ¬ T (has r v) → size cap r < size cap s
 unfolding upto
-size-fewer s r v b f t q = count-lt (has r) (has s) (upto 64) f v (In-table (λ i. i) 64 v b) q t
+size-fewer cap s r v b f t q = count-lt (has r) (has s) (upto cap) f v (In-table (λ i. i) cap v b) q t
 
-pub size-none : size 64 0 ≡ 0
-size-none = sym (members-count (has 0) 64) ∙ ap length (members-none (has 0) 64 (λ j b t. subst T (has-none j) t))
+pub size-none : (cap : ℕ) → size cap 0 ≡ 0
+size-none cap = sym (members-count (has 0) cap) ∙ ap length (members-none (has 0) cap (λ j b t. subst T (has-none j) t))
 
 -- the size of a clique's set is the clique's
-pub size-length : (n : ℕ) (g : Graph) (c : List ℕ) (w : ℕ) → n ≤ 64 → IsClique n g c → IsSetOf c w → size 64 w ≡ length c
-size-length n g c w few q p =
-    sym (members-count (has w) 64)
-    ∙ length-same (members (has w) 64) c (members-noDup (has w) 64) (q .once-each)
-    (λ x i. in-of x c (subst T (p x) (In-members (has w) 64 x i .1)))
-    (λ x i. members-In (has w) 64 x (let l = q .lives x i .below in let z : x < 64 = omega arith in z) (subst T (sym (p x)) (of-in x c i)))
+pub size-length : (cap n : ℕ) (g : Graph) (c : List ℕ) (w : ℕ) → n ≤ cap → IsClique n g c → IsSetOf c w → size cap w ≡ length c
+size-length cap n g c w few q p =
+    sym (members-count (has w) cap)
+    ∙ length-same (members (has w) cap) c (members-noDup (has w) cap) (q .once-each)
+    (λ x i. in-of x c (subst T (p x) (In-members (has w) cap x i .1)))
+    (λ x i. members-In (has w) cap x (let l = q .lives x i .below in let z : x < cap = omega arith in z) (subst T (sym (p x)) (of-in x c i)))
 
-pub elements-none : elements 0 ≡ []
+pub elements-none : (cap : ℕ) → elements cap 0 ≡ []
 unfolding elements
-elements-none = members-none (has 0) 64 (λ j b t. subst T (has-none j) t)
+elements-none cap = members-none (has 0) cap (λ j b t. subst T (has-none j) t)
 
-module _ (h : Node) (k : Held h) where
+module _ {cap : ℕ} (h : Node) (k : HeldAt cap h) where
   abbrev g : Graph
   g = view h
 
@@ -114,29 +105,29 @@ module _ (h : Node) (k : Held h) where
   pub record Turn (c₀ : Growth) (left : ℕ) (c : Growth) (rest : ℕ) : Type 0 where
     pub rest-near : Within rest (c .near)
     pub near-live : Within (c .near) (h .live)
-    pub same : (l : List ℕ) → Grown (h .n) g l c₀ → (m : List ℕ) × Grown (h .n) g m c × (scan g m (elements rest) ≡ scan g l (elements left))
+    pub same : (l : List ℕ) → Grown (h .n) g l c₀ → (m : List ℕ) × Grown (h .n) g m c × (scan g m (elements cap rest) ≡ scan g l (elements cap left))
 
   pub turn-start : (c : Growth) (left : ℕ) → Within left (c .near) → Within (c .near) (h .live) → Turn c left c left
   turn-start c left a b = record { rest-near = a; near-live = b; same = λ l r. (l, r, refl) }
 
   -- nothing is left
-  pub turn-end : (c₀ : Growth) (left : ℕ) (c : Growth) → Turn c₀ left c 0 → Grows (h .n) g left c₀ c
-  turn-end c₀ left c i l e = let j = i .same l e in subst (λ m. Grown (h .n) g m c) (sym (ap (scan g (j .0)) elements-none) ∙ j .2) (j .1)
+  pub turn-end : (c₀ : Growth) (left : ℕ) (c : Growth) → Turn c₀ left c 0 → GrowsAt cap (h .n) g left c₀ c
+  turn-end c₀ left c i l e = let j = i .same l e in subst (λ m. Grown (h .n) g m c) (sym (ap (scan g (j .0)) (elements-none cap)) ∙ j .2) (j .1)
 
-  module _ (c₀ : Growth) (left : ℕ) (c : Growth) (rest v s m r : ℕ) (i : Turn c₀ left c rest) (w : IsLowest 64 rest v) (ws : IsWith (c .set) v s)
+  module _ (c₀ : Growth) (left : ℕ) (c : Growth) (rest v s m r : ℕ) (i : Turn c₀ left c rest) (w : IsLowest cap rest v) (ws : IsWith (c .set) v s)
       (wm : IsMeet (c .near) (getD (h .rows) v zero) m) (wr : IsMeet rest (getD (h .rows) v zero) r) where
     live-v : T (has (h .live) v)
     live-v = i .near-live v (i .rest-near v (w .member))
 
-    pub turn-less : size 64 r < size 64 rest
+    pub turn-less : size cap r < size cap rest
     turn-less =
-        size-fewer rest r v (w .below) (λ x t. and-l (has rest x) (has (getD (h .rows) v zero) x) (subst T (wr x) t)) (w .member)
+        size-fewer cap rest r v (w .below) (λ x t. and-l (has rest x) (has (getD (h .rows) v zero) x) (subst T (wr x) t)) (w .member)
         (λ t. row-loop v live-v (and-r (has rest v) (has (getD (h .rows) v zero) v) (subst T (wr v) t)))
 
-    turn-scan : (l : List ℕ) → Grown (h .n) g l c → scan g (v ∷ l) (elements r) ≡ scan g l (elements rest)
+    turn-scan : (l : List ℕ) → Grown (h .n) g l c → scan g (v ∷ l) (elements cap r) ≡ scan g l (elements cap rest)
     unfolding elements
     turn-scan l e =
-        scan-lowest g l (has rest) (has r) v 64 (w .below) (w .member) (w .least) (admitted v (w .member))
+        scan-lowest g l (has rest) (has r) v cap (w .below) (w .member) (w .least) (admitted v (w .member))
         (λ t. row-loop v live-v (and-r (has rest v) (has (getD (h .rows) v zero) v) (subst T (wr v) t)))
         (λ x t. and-l (has rest x) (has (getD (h .rows) v zero) x) (subst T (wr x) t))
         (λ x t d a. subst T (sym (wr x)) (and-t (has rest x) (has (getD (h .rows) v zero) x) t (beside x (and-l (g .adj x v) (admits g l x) a))))

@@ -12,7 +12,7 @@ ghost use lib.Dec.{T};
 ghost use Rattle.sets.specs.Set.{has};
 ghost use Rattle.graphs.specs.Held.{view, Held, Holds, Each};
 ghost use Rattle.cliques.specs.Clique.{clique as cliqueOf};
-ghost use Rattle.cliques.specs.Growth.{IsSetOf, first, Grown, Grows, Within, Reaches};
+ghost use Rattle.cliques.specs.Growth.{IsSetOf, opening, Grown, Grows, Within, Reaches};
 
 // A clique on the way: its members, and the live vertices that it admits.
 pub struct Growth {
@@ -47,7 +47,7 @@ pub fn opened(live: u64, rows: &[u64; 64], s: usize) -> Growth
     requires { ⌜ Holds live (now rows) ⌝ }
     requires { ⌜ s < 64 ⌝ }
     requires { ⌜ T (has live s) ⌝ }
-    ensures { λ r. ⌜ Each live (now (rows .entry)) (λ h. Grown (h .n) (view h) (first (h .n) (view h) s) r) ⌝ }
+    ensures { λ r. ⌜ Each live (now (rows .entry)) (λ h. Grown (h .n) (view h) (opening (h .n) (view h) s) r) ⌝ }
 {
     let near = meet(live, rows[s]);
     let c = Growth {

@@ -41,7 +41,16 @@ borrow-one slice digit b all out r e a l h v k =
 -- no count is above 127
 value-few : (c : Counts) (v : ℕ) → value c v ≤ 127
 value-few c v =
-    omega (arith, bit-few (has (c .s0) v), bit-few (has (c .s1) v), bit-few (has (c .s2) v), bit-few (has (c .s3) v), bit-few (has (c .s4) v), bit-few (has (c .s5) v), bit-few (has (c .s6) v))
+    omega (
+      arith,
+      bit-few (has (c .s0) v),
+      bit-few (has (c .s1) v),
+      bit-few (has (c .s2) v),
+      bit-few (has (c .s3) v),
+      bit-few (has (c .s4) v),
+      bit-few (has (c .s5) v),
+      bit-few (has (c .s6) v),
+    )
 
 pub least-none : (c : Counts) (need among : ℕ) → 127 < need → IsAtLeast c need among 0
 least-none c need among b v = has-none v ∙ none (has among v) ∙ ap (λ (t : Bool). has among v && t) (sym (lt-leb need (value c v) (omega (arith, value-few c v))))

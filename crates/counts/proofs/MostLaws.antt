@@ -69,7 +69,8 @@ leads-most c f apart m e l = record {
   having = λ v.
       T-ext (has (m .having) v) (has apart v && eqb (value c v) (m .count))
       (λ t. and-t (has apart v) (eqb (value c v) (m .count)) (l .within v t) (eqb-of (value c v) (m .count) (sym (e v) ∙ l .same v t)))
-      (λ t. leader v (and-l (has apart v) (eqb (value c v) (m .count)) t) (eqb→eq (value c v) (m .count) (and-r (has apart v) (eqb (value c v) (m .count)) t)) (T? (has (m .having) v)));
+      (λ t. leader v (and-l (has apart v) (eqb (value c v) (m .count)) t) (eqb→eq (value c v) (m .count) (and-r (has apart v) (eqb (value c v) (m .count)) t))
+      (T? (has (m .having) v)));
   some = l .some;
 }
   where

@@ -1,4 +1,4 @@
--- In how many rows a number is, for all numbers at once.
+-- In how many rows a number is, for all numbers at once. Of one word by nature: a slice has 64 numbers, and seven slices hold counts to 64.
 --
 --   held rows near v    : how many members of near have v in their row
 --   number slices v     : the number whose digits, from the lowest, say whether v is in these slices

@@ -1,4 +1,4 @@
--- What the inner functions promise: sums of digits at each number, one row more, four rows more, one slice lower.
+-- What the inner functions promise: sums of digits at each number, one row more, four rows more, one slice lower. Of one word, as Counts.antt.
 --
 --   IsHalf a b r, IsSum a b c r : r has at each number the sum of its digits in two, in three, words
 --   IsPulled rows left r  : r has the row of a member of left, and the other members; of none an empty row

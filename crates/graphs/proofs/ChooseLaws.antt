@@ -20,8 +20,8 @@ use Rattle.counts.specs.Counts.{held, value, Counted, IsMost, IsAtLeast}
 use Rattle.counts.specs.declared.Counts.{Counts}
 use Rattle.counts.specs.declared.Most.{Most}
 use Rattle.graphs.specs.Graph.{live, gap, common, pair}
-use Rattle.graphs.specs.Held.{Held, view}
-use Rattle.graphs.specs.Acts.{lead, shared, Mutual, Hopeful}
+use Rattle.graphs.specs.Held.{Held, HeldAt, view}
+use Rattle.graphs.specs.Acts.{lead, shared, sharedAt, Mutual, Hopeful}
 use Rattle.graphs.specs.declared.Node.{Node}
 use Rattle.graphs.specs.declared.Lead.{Lead}
 use Rattle.graphs.proofs.GraphLaws.{gap-chosen, of-live}
@@ -32,18 +32,18 @@ use Rattle.graphs.proofs.LeadLaws.{over-narrow, pairs, after, over-grea
 -- ---- one pair
 
 -- the count of ones is the number of shared neighbours
-shared-is : (rows : List ℕ) (near v m c : ℕ) → IsMeet near (getD rows v zero) m → c ≡ size 64 m → c ≡ shared rows near v
-shared-is rows near v m c h e = e ∙ count-agree 64 (has m) (λ w. has near w && has (getD rows v zero) w) (λ j b. h j)
+shared-is : (cap : ℕ) (rows : List ℕ) (near v m c : ℕ) → IsMeet near (getD rows v zero) m → c ≡ size cap m → c ≡ sharedAt cap rows near v
+shared-is cap rows near v m c h e = e ∙ count-agree cap (has m) (λ w. has near w && has (getD rows v zero) w) (λ j b. h j)
 
-module _ (rows : List ℕ) (near u v m c : ℕ) (l : Lead) (h : IsMeet near (getD rows v zero) m) (e : c ≡ size 64 m) where
-  plus : c + 1 ≡ suc (shared rows near v)
-  plus = add-one c ∙ ap suc (shared-is rows near v m c h e)
+module _ (cap : ℕ) (rows : List ℕ) (near u v m c : ℕ) (l : Lead) (h : IsMeet near (getD rows v zero) m) (e : c ≡ size cap m) where
+  plus : c + 1 ≡ suc (sharedAt cap rows near v)
+  plus = add-one c ∙ ap suc (shared-is cap rows near v m c h e)
 
-  pub lead-taken : l .size < c + 1 → record { size = c + 1; u = u; v = v } ≡ lead (shared rows near) u l v
-  lead-taken b = ap (λ (k : ℕ). record { size = k; u = u; v = v }) plus ∙ sym (lead-more (shared rows near) u l v (omega (arith, plus)))
+  pub lead-taken : l .size < c + 1 → record { size = c + 1; u = u; v = v } ≡ lead (sharedAt cap rows near) u l v
+  lead-taken b = ap (λ (k : ℕ). record { size = k; u = u; v = v }) plus ∙ sym (lead-more (sharedAt cap rows near) u l v (omega (arith, plus)))
 
-  pub lead-kept : c + 1 ≤ l .size → l ≡ lead (shared rows near) u l v
-  lead-kept b = sym (lead-less (shared rows near) u l v (omega (arith, plus)))
+  pub lead-kept : c + 1 ≤ l .size → l ≡ lead (sharedAt cap rows near) u l v
+  lead-kept b = sym (lead-less (sharedAt cap rows near) u l v (omega (arith, plus)))
 
 -- ---- all pairs of u at once
 
@@ -80,7 +80,8 @@ module _ (rows : List ℕ) (near apart u : ℕ) (best : Lead) (c : Counts) (m : 
     pub most-leads : best .size ≤ m .count → record { size = m .count + 1; u = u; v = v } ≡ over (lead (shared rows near) u) best (members (has apart) 64)
     most-leads b =
         ap (λ (k : ℕ). record { size = k; u = u; v = v }) (add-one (m .count) ∙ ap suc (sym most-shared))
-        ∙ sym (lead-first (shared rows near) u (has apart) v in-apart less (λ j t. omega (arith, top .greatest j t, value-shared j t, most-shared)) 64 (low .below) best (omega (arith, most-shared)))
+        ∙ sym (lead-first (shared rows near) u (has apart) v in-apart less (λ j t. omega (arith, top .greatest j t, value-shared j t, most-shared)) 64 (low .below) best
+        (omega (arith, most-shared)))
       where
         in-apart : T (has apart v)
         in-apart = and-l (has apart v) (eqb (value c v) (m .count)) apart-and
@@ -111,7 +112,7 @@ least-hopeful c need left r is = record {
 
 -- ---- one row
 
-module _ (rows : List ℕ) (live : ℕ) where
+module _ (cap : ℕ) (rows : List ℕ) (live : ℕ) where
   -- adjacency, gaps and common neighbours, as the words have them
   abbrev edge : ℕ → ℕ → Bool
   edge x y = has live x && (has live y && has (getD rows x zero) y)
@@ -120,20 +121,20 @@ module _ (rows : List ℕ) (live : ℕ) where
   open? p = (has live (p .1) && ltb (p .0) (p .1)) && not (has (getD rows (p .0) zero) (p .1) && has live (p .1))
 
   abbrev pub sharing : ℕ × ℕ → ℕ
-  sharing p = count (λ w. edge (p .0) w && edge (p .1) w) (upto 64)
+  sharing p = count (λ w. edge (p .0) w && edge (p .1) w) (upto cap)
 
   -- how many neighbours one has bounds what it shares
-  share-few : (x y : ℕ) → sharing (x, y) ≤ shared rows live x
+  share-few : (x y : ℕ) → sharing (x, y) ≤ sharedAt cap rows live x
   share-few x y =
-      count-le (λ w. edge x w && edge y w) (λ w. has live w && has (getD rows x zero) w) (upto 64)
+      count-le (λ w. edge x w && edge y w) (λ w. has live w && has (getD rows x zero) w) (upto cap)
       (λ w t. and-r (has live x) (has live w && has (getD rows x zero) w) (and-l (edge x w) (edge y w) t))
 
   -- what is left of the live vertices: of those after one that is left only such are out as have too few neighbours to lead
   pub record Hoping (need left : ℕ) : Type 0 where
     pub within : (x : ℕ) → T (has left x) → T (has live x)
-    pub behind : (x y : ℕ) → T (has left x) → T (has live y) → x < y → ¬ T (has left y) → shared rows live y < need
+    pub behind : (x y : ℕ) → T (has left x) → T (has live y) → x < y → ¬ T (has left y) → sharedAt cap rows live y < need
 
-  module _ (best : Lead) (left u next near apart : ℕ) (rest : Hoping (best .size) left) (low : IsLowest 64 left u) (out : IsWithout left u next)
+  module _ (best : Lead) (left u next near apart : ℕ) (rest : Hoping (best .size) left) (low : IsLowest cap left u) (out : IsWithout left u next)
       (is-near : IsMeet (getD rows u zero) live near) (is-apart : IsLess next near apart) where
     next-after : (v : ℕ) → T (has next v) → T (has left v) × (u < v)
     next-after v t = let k = without-kept left u next v out t in (k .0, above (k .0) (k .1))
@@ -153,7 +154,7 @@ module _ (rows : List ℕ) (live : ℕ) where
         (subst (λ (b : Bool). T (not b)) (is-near v) (and-r (has next v) (not (has near v)) s))
 
     -- who is passed over has too few neighbours
-    passed-few : (v : ℕ) → T (open? (u, v)) → ¬ T (has apart v) → shared rows near v < best .size
+    passed-few : (v : ℕ) → T (open? (u, v)) → ¬ T (has apart v) → sharedAt cap rows near v < best .size
     passed-few v t q = omega (arith, near-few, rest .behind u v (low .member) (and-l (has live v) (ltb u v) s) b gone)
       where
         s : T (has live v && ltb u v)
@@ -167,27 +168,29 @@ module _ (rows : List ℕ) (live : ℕ) where
             q (subst T (sym (is-apart v)) (and-t (has next v) (not (has near v)) (kept-without left u next v out l (λ e. let z : ⊥ = omega (arith, b) in z))
             (subst (λ (c : Bool). T (not c)) (sym (is-near v)) (and-r (has live v && ltb u v) (not (has (getD rows u zero) v && has live v)) t))))
 
-        near-few : shared rows near v ≤ shared rows live v
+        near-few : sharedAt cap rows near v ≤ sharedAt cap rows live v
         near-few =
-            count-le (λ w. has near w && has (getD rows v zero) w) (λ w. has live w && has (getD rows v zero) w) (upto 64)
+            count-le (λ w. has near w && has (getD rows v zero) w) (λ w. has live w && has (getD rows v zero) w) (upto cap)
             (λ w m. and-t (has live w) (has (getD rows v zero) w)
-            (and-r (has (getD rows u zero) w) (has live w) (subst T (is-near w) (and-l (has near w) (has (getD rows v zero) w) m))) (and-r (has near w) (has (getD rows v zero) w) m))
+            (and-r (has (getD rows u zero) w) (has live w) (subst T (is-near w) (and-l (has near w) (has (getD rows v zero) w) m)))
+            (and-r (has near w) (has (getD rows v zero) w) m))
 
     -- so all that are open to u give what those give that are left
-    row-same : over (lead (shared rows near) u) best (members (has apart) 64) ≡ over (lead (shared rows near) u) best (members (λ y. open? (u, y)) 64)
+    row-same : over (lead (sharedAt cap rows near) u) best (members (has apart) cap) ≡ over (lead (sharedAt cap rows near) u) best (members (λ y. open? (u, y)) cap)
     row-same =
-        over-narrow (lead (shared rows near) u) (λ l. best .size ≤ l .size) (λ y. open? (u, y)) (has apart) apart-open (λ l v h. lead-grows (shared rows near) u l v (best .size) h)
-        (λ l v h t q. lead-less (shared rows near) u l v (omega (arith, passed-few v t q))) 64 best (omega arith) .0
+        over-narrow (lead (sharedAt cap rows near) u) (λ l. best .size ≤ l .size) (λ y. open? (u, y)) (has apart) apart-open
+        (λ l v h. lead-grows (sharedAt cap rows near) u l v (best .size) h)
+        (λ l v h t q. lead-less (sharedAt cap rows near) u l v (omega (arith, passed-few v t q))) cap best (omega arith) .0
 
-    row-shared : (v : ℕ) → In v (members (λ y. open? (u, y)) 64) → shared rows near v ≡ sharing (u, v)
-    row-shared v i = count-agree 64 (λ w. has near w && has (getD rows v zero) w) (λ w. edge u w && edge v w) (λ w b. same w)
+    row-shared : (v : ℕ) → In v (members (λ y. open? (u, y)) cap) → sharedAt cap rows near v ≡ sharing (u, v)
+    row-shared v i = count-agree cap (λ w. has near w && has (getD rows v zero) w) (λ w. edge u w && edge v w) (λ w b. same w)
       where
         lu : has live u ≡ true
         lu = T→true (has live u) (rest .within u (low .member))
 
         lv : has live v ≡ true
         lv =
-            let t = In-members (λ y. open? (u, y)) 64 v i .1 in
+            let t = In-members (λ y. open? (u, y)) cap v i .1 in
             T→true (has live v) (and-l (has live v) (ltb u v) (and-l (has live v && ltb u v) (not (has (getD rows u zero) v && has live v)) t))
 
         alike : (a b l : Bool) → ((a && l) && b) ≡ ((true && (l && a)) && (true && (l && b)))
@@ -205,10 +208,10 @@ module _ (rows : List ℕ) (live : ℕ) where
             ap (λ (t : Bool). t && has (getD rows v zero) w) (is-near w) ∙ alike (has (getD rows u zero) w) (has (getD rows v zero) w) (has live w)
             ∙ sym (ap₂ (λ (s t : Bool). (s && (has live w && has (getD rows u zero) w)) && (t && (has live w && has (getD rows v zero) w))) lu lv)
 
-    row-leads : (o : Option (ℕ × ℕ)) → Leads sharing best o → Leads sharing (over (lead (shared rows near) u) best (members (has apart) 64)) (row-lead sharing open? 64 o u)
+    row-leads : (o : Option (ℕ × ℕ)) → Leads sharing best o → Leads sharing (over (lead (sharedAt cap rows near) u) best (members (has apart) cap)) (row-lead sharing open? cap o u)
     row-leads o h =
-        subst (λ (l : Lead). Leads sharing l (row-lead sharing open? 64 o u)) (sym row-same)
-        (leads-over sharing (shared rows near) u (members (λ y. open? (u, y)) 64) row-shared best o h)
+        subst (λ (l : Lead). Leads sharing l (row-lead sharing open? cap o u)) (sym row-same)
+        (leads-over sharing (sharedAt cap rows near) u (members (λ y. open? (u, y)) cap) row-shared best o h)
 
   -- ---- the loop over the rows
 
@@ -217,31 +220,31 @@ module _ (rows : List ℕ) (live : ℕ) where
     pub rest : Hoping (best .size) left
     pub top : Option (ℕ × ℕ)
     pub leads : Leads sharing best top
-    pub same : over (row-lead sharing open? 64) top (members (has left) 64) ≡ over (row-lead sharing open? 64) none (members (has live) 64)
+    pub same : over (row-lead sharing open? cap) top (members (has left) cap) ≡ over (row-lead sharing open? cap) none (members (has live) cap)
 
   pub scanned-none : Scanned (record { size = 0; u = 0; v = 0 }) live
   scanned-none = record { rest = record { within = λ x t. t; behind = λ x y t u b q. absurd (q u) }; top = none; leads = refl; same = refl }
 
-  module _ (best : Lead) (left u next near apart : ℕ) (s : Scanned best left) (low : IsLowest 64 left u) (out : IsWithout left u next)
-      (m : IsMeet (getD rows u zero) live near) (d : IsLess next near apart) (new : Lead) (e : new ≡ over (lead (shared rows near) u) best (members (has apart) 64))
-      (kept : ℕ) (into : (v : ℕ) → T (has kept v) → T (has next v)) (few : (v : ℕ) → T (has next v) → ¬ T (has kept v) → shared rows live v < new .size) where
+  module _ (best : Lead) (left u next near apart : ℕ) (s : Scanned best left) (low : IsLowest cap left u) (out : IsWithout left u next)
+      (m : IsMeet (getD rows u zero) live near) (d : IsLess next near apart) (new : Lead) (e : new ≡ over (lead (sharedAt cap rows near) u) best (members (has apart) cap))
+      (kept : ℕ) (into : (v : ℕ) → T (has kept v) → T (has next v)) (few : (v : ℕ) → T (has next v) → ¬ T (has kept v) → sharedAt cap rows live v < new .size) where
     abbrev top′ : Option (ℕ × ℕ)
-    top′ = row-lead sharing open? 64 (s .top) u
+    top′ = row-lead sharing open? cap (s .top) u
 
     leads′ : Leads sharing new top′
     leads′ = subst (λ (l : Lead). Leads sharing l top′) (sym e) (row-leads best left u next near apart (s .rest) low out m d (s .top) (s .leads))
 
     grown : best .size ≤ new .size
     grown =
-        omega (arith, leads-reach sharing best (s .top) (s .leads), leads-reach sharing new top′ leads′, row-grows sharing u (members (λ y. open? (u, y)) 64) (s .top))
+        omega (arith, leads-reach sharing best (s .top) (s .leads), leads-reach sharing new top′ leads′, row-grows sharing u (members (λ y. open? (u, y)) cap) (s .top))
 
-    behind′ : (x y : ℕ) → T (has kept x) → T (has live y) → x < y → ¬ T (has kept y) → shared rows live y < new .size
+    behind′ : (x y : ℕ) → T (has kept x) → T (has live y) → x < y → ¬ T (has kept y) → sharedAt cap rows live y < new .size
     behind′ x y t l b q = go (T? (has next y))
       where
         kx : T (has left x) × (x ≢ u)
         kx = without-kept left u next x out (into x t)
 
-        go : Dec (T (has next y)) → shared rows live y < new .size
+        go : Dec (T (has next y)) → sharedAt cap rows live y < new .size
         go (yes n) = few y n q
         go (no n) =
             omega (arith, grown, s .rest .behind x y (kx .0) l b (λ p. n (kept-without left u next y out p (λ z. low .least x (omega arith) (kx .0)))))
@@ -251,14 +254,15 @@ module _ (rows : List ℕ) (live : ℕ) where
       rest = record { within = λ x t. s .rest .within x (without-kept left u next x out (into x t) .0); behind = behind′ };
       top = top′;
       leads = leads′;
-      same = over-narrow (row-lead sharing open? 64) (λ o. new .size ≤ reach sharing o) (has next) (has kept) into
-          (λ o x h. omega (arith, row-grows sharing x (members (λ y. open? (x, y)) 64) o))
-          (λ o x h t q. row-stays sharing x (members (λ y. open? (x, y)) 64) o (λ y i. omega (arith, few x t q, share-few x y))) 64 top′ (omega (arith, leads-reach sharing new top′ leads′)) .0
-          ∙ over-next (row-lead sharing open? 64) (s .top) top′ left u next low out refl ∙ s .same;
+      same = over-narrow (row-lead sharing open? cap) (λ o. new .size ≤ reach sharing o) (has next) (has kept) into
+          (λ o x h. omega (arith, row-grows sharing x (members (λ y. open? (x, y)) cap) o))
+          (λ o x h t q. row-stays sharing x (members (λ y. open? (x, y)) cap) o (λ y i. omega (arith, few x t q, share-few x y))) cap top′
+          (omega (arith, leads-reach sharing new top′ leads′)) .0
+          ∙ over-next (row-lead sharing open? cap) (s .top) top′ left u next low out refl ∙ s .same;
     }
 
 -- neighbours go both ways
-pub live-mutual : (h : Node) → Held h → Mutual (h .rows) (h .live) (h .live)
+pub live-mutual : {cap : ℕ} (h : Node) → HeldAt cap h → Mutual (h .rows) (h .live) (h .live)
 live-mutual h k w v tw tv = alike (T-ext (view h .adj w v) (view h .adj v w) (k .good .symm w v) (k .good .symm v w))
   where
     lw : has (h .live) w ≡ true
@@ -272,7 +276,7 @@ live-mutual h k w v tw tv = alike (T-ext (view h .adj w v) (view h .adj v w) (k 
         sym (ap₂ (λ (a b : Bool). a && (b && has (getD (h .rows) w zero) v)) lw lv) ∙ q
         ∙ ap₂ (λ (a b : Bool). a && (b && has (getD (h .rows) v zero) w)) lv lw
 
-pub row-mutual : (h : Node) → Held h → (u left near apart : ℕ) → ((x : ℕ) → T (has left x) → T (has (h .live) x)) → IsMeet (getD (h .rows) u zero) (h .live) near
+pub row-mutual : {cap : ℕ} (h : Node) → HeldAt cap h → (u left near apart : ℕ) → ((x : ℕ) → T (has left x) → T (has (h .live) x)) → IsMeet (getD (h .rows) u zero) (h .live) near
     → IsLess left near apart → Mutual (h .rows) near apart
 row-mutual h k u left near apart within wn wa w v tw tv =
     live-mutual h k w v (and-r (has (getD (h .rows) u zero) w) (has (h .live) w) (subst T (wn w) tw)) (within v (and-l (has left v) (not (has near v)) (subst T (wa v) tv)))
@@ -287,18 +291,18 @@ over-agree : {A B : Type 0} (f g : B → A → B) (l : List A) → ((x : A) → 
 over-agree f g [] h s = refl
 over-agree f g (x ∷ l) h s = ap (λ t. over f t l) (h x (inl refl) s) ∙ over-agree f g l (λ y i. h y (inr i)) (g s x)
 
-module _ (h : Node) (k : Held h) where
-  sharing-common : sharing (h .rows) (h .live) ≡ common (h .n) (view h)
+module _ {cap : ℕ} (h : Node) (k : HeldAt cap h) where
+  sharing-common : sharing cap (h .rows) (h .live) ≡ common (h .n) (view h)
   sharing-common =
-      fun-ext (λ p. count-narrow (λ w. view h .adj (p .0) w && view h .adj (p .1) w) (h .n) 64 (k .few)
+      fun-ext (λ p. count-narrow (λ w. view h .adj (p .0) w && view h .adj (p .1) w) (h .n) cap (k .few)
       (λ w b t. held-beyond h k w b (and-l (has (h .live) w) (has (getD (h .rows) (p .0) zero) w)
       (and-r (has (h .live) (p .0)) (has (h .live) w && has (getD (h .rows) (p .0) zero) w) (and-l (view h .adj (p .0) w) (view h .adj (p .1) w) t)))))
 
-  row-gaps : (x : ℕ) → T (has (h .live) x) → members (λ y. open? (h .rows) (h .live) (x, y)) 64 ≡ members (λ y. gap (h .n) (view h) (x, y)) (h .n)
+  row-gaps : (x : ℕ) → T (has (h .live) x) → members (λ y. open? cap (h .rows) (h .live) (x, y)) cap ≡ members (λ y. gap (h .n) (view h) (x, y)) (h .n)
   row-gaps x t =
-      members-narrow (λ y. open? (h .rows) (h .live) (x, y)) (h .n) 64 (k .few)
+      members-narrow (λ y. open? cap (h .rows) (h .live) (x, y)) (h .n) cap (k .few)
       (λ y b s. held-beyond h k y b (and-l (has (h .live) y) (ltb x y) (and-l (has (h .live) y && ltb x y) (not (has (getD (h .rows) x zero) y && has (h .live) y)) s)))
-      ∙ members-agree (h .n) (λ y. open? (h .rows) (h .live) (x, y)) (λ y. gap (h .n) (view h) (x, y)) (λ y b. same y)
+      ∙ members-agree (h .n) (λ y. open? cap (h .rows) (h .live) (x, y)) (λ y. gap (h .n) (view h) (x, y)) (λ y b. same y)
     where
       lx : has (h .live) x ≡ true
       lx = T→true (has (h .live) x) t
@@ -313,7 +317,7 @@ module _ (h : Node) (k : Held h) where
       alike false false true = refl
       alike false false false = refl
 
-      same : (y : ℕ) → open? (h .rows) (h .live) (x, y) ≡ gap (h .n) (view h) (x, y)
+      same : (y : ℕ) → open? cap (h .rows) (h .live) (x, y) ≡ gap (h .n) (view h) (x, y)
       same y =
           alike (has (h .live) y) (ltb x y) (has (getD (h .rows) x zero) y)
           ∙ sym (ap₂ (λ (s t : Bool). ltb x y && (s && (t && not (view h .adj x y)))) (sym (k .lives x) ∙ lx) (sym (k .lives y))
@@ -322,19 +326,20 @@ module _ (h : Node) (k : Held h) where
   no-row : (x : ℕ) → ¬ T (live (h .n) (view h) x) → members (λ y. gap (h .n) (view h) (x, y)) (h .n) ≡ []
   no-row x q = members-none (λ y. gap (h .n) (view h) (x, y)) (h .n) (λ y b t. q (of-live (h .n) (view h) x (gap-chosen (h .n) (view h) x y t .live-u)))
 
-  pair-scan : over (row-lead (sharing (h .rows) (h .live)) (open? (h .rows) (h .live)) 64) none (members (has (h .live)) 64) ≡ pair (h .n) (view h)
+  pair-scan : over (row-lead (sharing cap (h .rows) (h .live)) (open? cap (h .rows) (h .live)) cap) none (members (has (h .live)) cap) ≡ pair (h .n) (view h)
   pair-scan =
-      ap (λ f. over (row-lead f (open? (h .rows) (h .live)) 64) none (members (has (h .live)) 64)) sharing-common
-      ∙ over-agree (row-lead (common (h .n) (view h)) (open? (h .rows) (h .live)) 64) (row-lead (common (h .n) (view h)) (gap (h .n) (view h)) (h .n)) (members (has (h .live)) 64)
-      (λ x i o. ap (λ vs. over (after (common (h .n) (view h))) o (pairs x vs)) (row-gaps x (In-members (has (h .live)) 64 x i .1))) none
+      ap (λ f. over (row-lead f (open? cap (h .rows) (h .live)) cap) none (members (has (h .live)) cap)) sharing-common
+      ∙ over-agree (row-lead (common (h .n) (view h)) (open? cap (h .rows) (h .live)) cap) (row-lead (common (h .n) (view h)) (gap (h .n) (view h)) (h .n))
+      (members (has (h .live)) cap)
+      (λ x i o. ap (λ vs. over (after (common (h .n) (view h))) o (pairs x vs)) (row-gaps x (In-members (has (h .live)) cap x i .1))) none
       ∙ ap (over (row-lead (common (h .n) (view h)) (gap (h .n) (view h)) (h .n)) none) (held-members h k)
       ∙ sym (cross-lead (common (h .n) (view h)) (gap (h .n) (view h)) (live (h .n) (view h)) (h .n) (h .n) no-row none)
       ∙ over-greatest (common (h .n) (view h)) none (select (gap (h .n) (view h)) (cross (h .n) (h .n)))
 
-  pub scanned-all : (best : Lead) (left : ℕ) → left ≡ 0 → Scanned (h .rows) (h .live) best left → Leads (sharing (h .rows) (h .live)) best (pair (h .n) (view h))
+  pub scanned-all : (best : Lead) (left : ℕ) → left ≡ 0 → Scanned cap (h .rows) (h .live) best left → Leads (sharing cap (h .rows) (h .live)) best (pair (h .n) (view h))
   scanned-all best left e s =
-      subst (λ o. Leads (sharing (h .rows) (h .live)) best o)
-      (sym (over-none (row-lead (sharing (h .rows) (h .live)) (open? (h .rows) (h .live)) 64) (s .top) left e) ∙ s .same ∙ pair-scan) (s .leads)
+      subst (λ o. Leads (sharing cap (h .rows) (h .live)) best o)
+      (sym (over-none cap (row-lead (sharing cap (h .rows) (h .live)) (open? cap (h .rows) (h .live)) cap) (s .top) left e) ∙ s .same ∙ pair-scan) (s .leads)
 
 -- ---- the answer
 

@@ -8,18 +8,18 @@ use native.Mathlib.Omega.{arith}
 use lib.ListN.{length, getD, set, take, length-set}
 use lib.Seq.{take-suc-set, getD-take}
 use Rattle.clashes.specs.Divisions.{at, groups}
-use Rattle.graphs.specs.Held.{Held}
+use Rattle.graphs.specs.Held.{HeldAt}
 use Rattle.graphs.specs.declared.Node.{Node}
 use Rattle.graphs.proofs.GroupingLaws.{part, part-opens, part-joins, groups-opens, groups-joins}
 
 -- the bytes below i are the groups of the entries below i, and next is how many they are
-pub record Coloured (names out : List ℕ) (next i : ℕ) : Type 0 where
-  pub long : length out ≡ 64
+pub record Coloured (cap : ℕ) (names out : List ℕ) (next i : ℕ) : Type 0 where
+  pub long : length out ≡ cap
   pub few : next ≤ i
   pub many : next ≡ groups 0 (part (λ k. getD names k zero) i)
   pub is : take i out ≡ part (λ k. getD names k zero) i
 
-module _ (h : Node) (k : Held h) (out : List ℕ) (next i : ℕ) (b : i < h .n) (d : Coloured (h .names) out next i) where
+module _ {cap : ℕ} (h : Node) (k : HeldAt cap h) (out : List ℕ) (next i : ℕ) (b : i < h .n) (d : Coloured cap (h .names) out next i) where
   abbrev name : ℕ → ℕ
   name j = getD (h .names) j zero
 
@@ -27,7 +27,7 @@ module _ (h : Node) (k : Held h) (out : List ℕ) (next i : ℕ) (b : i < h .n) 
   inside = omega (arith, d .long, k .few)
 
   -- i stands for itself: no entry before it has its name
-  pub coloured-opens : name i ≡ i → Coloured (h .names) (set out i next) (next + 1) (i + 1)
+  pub coloured-opens : name i ≡ i → Coloured cap (h .names) (set out i next) (next + 1) (i + 1)
   coloured-opens e = record {
     long = length-set out i next ∙ d .long;
     few = omega (arith, d .few);
@@ -41,7 +41,7 @@ module _ (h : Node) (k : Held h) (out : List ℕ) (next i : ℕ) (b : i < h .n) 
       new j c q = let s = k .good .smallest j (omega arith) in let z : ⊥ = omega (arith, s, q, e) in z
 
   -- another entry stands for i, and stands before it
-  pub coloured-joins : (name i ≡ i → ⊥) → Coloured (h .names) (set out i (getD out (name i) zero)) next (i + 1)
+  pub coloured-joins : (name i ≡ i → ⊥) → Coloured cap (h .names) (set out i (getD out (name i) zero)) next (i + 1)
   coloured-joins q = record {
     long = length-set out i (getD out (name i) zero) ∙ d .long;
     few = omega (arith, d .few);

@@ -104,4 +104,5 @@ module _ (n : ℕ) (g : Graph) where
       go none f = refl
       go (some p) f =
           let c = f (p .0) (p .1) refl in
-          absurd (T-not (gap n g p) (all-get n (λ y. not (gap n g (p .0, y))) (all-get n (λ x. all n (λ y. not (gap n g (x, y)))) t (p .0) (c .live-u .below)) (p .1) (c .live-v .below)) (chosen-gap (p .0) (p .1) c))
+          absurd (T-not (gap n g p) (all-get n (λ y. not (gap n g (p .0, y))) (all-get n (λ x. all n (λ y. not (gap n g (x, y)))) t (p .0) (c .live-u .below)) (p .1)
+          (c .live-v .below)) (chosen-gap (p .0) (p .1) c))

@@ -7,7 +7,6 @@ pub mod MeasureLaws
 pub mod GroupingLaws
 pub mod LoopLaws
 pub mod HeldLaws
-pub mod CompleteLaws
 pub mod LeadLaws
 pub mod ChooseLaws
 pub mod ColourLaws

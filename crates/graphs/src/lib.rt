@@ -19,7 +19,7 @@ ghost use lib.ListN.{length, take};
 ghost use Rattle.sets.specs.Lists.{members, over};
 ghost use Rattle.sets.specs.Set.{has as member};
 ghost use Rattle.clashes.specs.Matrix.{Sound};
-ghost use Rattle.graphs.specs.Graph.{to, pair, complete, grouping};
+ghost use Rattle.graphs.specs.Graph.{to, pair, grouping};
 ghost use Rattle.graphs.specs.Held.{Held, view, choiceOf, Holds, Each};
 ghost use Rattle.graphs.specs.Acts.{IsRoot, Linked, Renamed, MergedRows, SeparatedRows, lead, shared, Mutual, Hopeful};
 
@@ -131,23 +131,6 @@ pub fn separate_rows(rows: &mut [u64; 64], u: usize, v: usize)
     let rv = with(rows[v], u);
     rows[u] = ru;
     rows[v] = rv;
-}
-
-// Are every two live vertices adjacent?
-pub fn is_complete(h: Node) -> bool
-    requires { ⌜ Held h ⌝ }
-    ensures { λ r. ⌜ r ≡ complete (h .n) (view h) ⌝ }
-{
-    let mut left = h.live;
-    while left != 0 {
-        let x = lowest(left);
-        left = without(left, x);
-        let apart = less(left, h.rows[x]);
-        if apart != 0 {
-            return false;
-        }
-    }
-    true
 }
 
 // The leading pair after u with each vertex of apart: near are u's neighbours. Pair by pair.

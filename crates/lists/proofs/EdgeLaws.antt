@@ -141,7 +141,8 @@ edge-line row i j n h e = ap edgesText (row-yes row i j n h e)
 pub no-line : (row i j n : ℕ) → j < n → has row j ≡ false → edgesText (rowEdges row i j (n - j)) ≡ edgesText (rowEdges row i (j + 1) (n - (j + 1)))
 no-line row i j n h e = ap edgesText (row-no row i j n h e)
 
-pub row-lines : (n : ℕ) (rows : List ℕ) (i : ℕ) → i < length rows → edgesText (edgesFrom n (drop i rows) i) ≡ edgesText (rowEdges (getD rows i 0) i (i + 1) (n - (i + 1))) ++ edgesText (edgesFrom n (drop (i + 1) rows) (i + 1))
+pub row-lines : (n : ℕ) (rows : List ℕ) (i : ℕ) → i < length rows
+    → edgesText (edgesFrom n (drop i rows) i) ≡ edgesText (rowEdges (getD rows i 0) i (i + 1) (n - (i + 1))) ++ edgesText (edgesFrom n (drop (i + 1) rows) (i + 1))
 row-lines n rows i h = ap edgesText (rows-more n rows i h) ∙ text-append (rowEdges (getD rows i 0) i (i + 1) (n - (i + 1))) (edgesFrom n (drop (i + 1) rows) (i + 1))
 
 -- ---- what is left to count, of m edges whose lines take b bytes

@@ -1,6 +1,7 @@
 -- Document 01's small texts, and one for each edge of its wording, by computation.
+use Prim.Native.Nat.{ℕ}
 use mathlib.Core.Path.{_≡_, refl}
-use mathlib.Core.List.{[], _∷_}
+use mathlib.Core.List.{List, [], _∷_}
 use lib.ListN.{take}
 use Rattle.lines.specs.Numeral.{numeral}
 use Rattle.lists.specs.Read.{readOf}
@@ -46,18 +47,48 @@ headless-first : readNumbers (readOf (101 ∷ 32 ∷ 57 ∷ 32 ∷ 57 ∷ 10 ∷
 headless-first = refl
 
 -- one e line more than stated, found at the end
-too-many-edges : readNumbers (readOf (112 ∷ 32 ∷ 101 ∷ 100 ∷ 103 ∷ 101 ∷ 32 ∷ 51 ∷ 32 ∷ 49 ∷ 10 ∷ 101 ∷ 32 ∷ 49 ∷ 32 ∷ 51 ∷ 10 ∷ 101 ∷ 32 ∷ 51 ∷ 32 ∷ 49 ∷ 10 ∷ []) 64 .answer) ≡ record { number = 16; place = 4; size = 0 }
+too-many-edges : readNumbers (readOf (
+    112 ∷ 32 ∷ 101 ∷ 100 ∷ 103 ∷ 101 ∷ 32 ∷ 51 ∷ 32 ∷ 49 ∷ 10
+    ∷ 101 ∷ 32 ∷ 49 ∷ 32 ∷ 51 ∷ 10
+    ∷ 101 ∷ 32 ∷ 51 ∷ 32 ∷ 49 ∷ 10
+    ∷ []) 64 .answer)
+    ≡ record { number = 16; place = 4; size = 0 }
 too-many-edges = refl
 
 -- a repeated edge, either way round, is counted
-both-ways-round : readNumbers (readOf (112 ∷ 32 ∷ 101 ∷ 100 ∷ 103 ∷ 101 ∷ 32 ∷ 51 ∷ 32 ∷ 50 ∷ 10 ∷ 101 ∷ 32 ∷ 49 ∷ 32 ∷ 51 ∷ 10 ∷ 101 ∷ 32 ∷ 51 ∷ 32 ∷ 49 ∷ 10 ∷ []) 64 .answer) ≡ record { number = 0; place = 0; size = 3 }
+both-ways-round : readNumbers (readOf (
+    112 ∷ 32 ∷ 101 ∷ 100 ∷ 103 ∷ 101 ∷ 32 ∷ 51 ∷ 32 ∷ 50 ∷ 10
+    ∷ 101 ∷ 32 ∷ 49 ∷ 32 ∷ 51 ∷ 10
+    ∷ 101 ∷ 32 ∷ 51 ∷ 32 ∷ 49 ∷ 10
+    ∷ []) 64 .answer)
+    ≡ record { number = 0; place = 0; size = 3 }
 both-ways-round = refl
 
--- document 01's five-cycle, read
-five-cycle : (readOf (112 ∷ 32 ∷ 101 ∷ 100 ∷ 103 ∷ 101 ∷ 32 ∷ 53 ∷ 32 ∷ 53 ∷ 10 ∷ 101 ∷ 32 ∷ 49 ∷ 32 ∷ 50 ∷ 10 ∷ 101 ∷ 32 ∷ 50 ∷ 32 ∷ 51 ∷ 10 ∷ 101 ∷ 32 ∷ 51 ∷ 32 ∷ 52 ∷ 10 ∷ 101 ∷ 32 ∷ 52 ∷ 32 ∷ 53 ∷ 10 ∷ 101 ∷ 32 ∷ 49 ∷ 32 ∷ 53 ∷ 10 ∷ []) 64 .answer ≡ Read 5) × (take 5 (readOf (112 ∷ 32 ∷ 101 ∷ 100 ∷ 103 ∷ 101 ∷ 32 ∷ 53 ∷ 32 ∷ 53 ∷ 10 ∷ 101 ∷ 32 ∷ 49 ∷ 32 ∷ 50 ∷ 10 ∷ 101 ∷ 32 ∷ 50 ∷ 32 ∷ 51 ∷ 10 ∷ 101 ∷ 32 ∷ 51 ∷ 32 ∷ 52 ∷ 10 ∷ 101 ∷ 32 ∷ 52 ∷ 32 ∷ 53 ∷ 10 ∷ 101 ∷ 32 ∷ 49 ∷ 32 ∷ 53 ∷ 10 ∷ []) 64 .rows) ≡ 18 ∷ 5 ∷ 10 ∷ 20 ∷ 9 ∷ [])
+-- document 01's five-cycle, a line of the text to a line here
+abbrev five : List ℕ
+five =
+    112 ∷ 32 ∷ 101 ∷ 100 ∷ 103 ∷ 101 ∷ 32 ∷ 53 ∷ 32 ∷ 53 ∷ 10
+    ∷ 101 ∷ 32 ∷ 49 ∷ 32 ∷ 50 ∷ 10
+    ∷ 101 ∷ 32 ∷ 50 ∷ 32 ∷ 51 ∷ 10
+    ∷ 101 ∷ 32 ∷ 51 ∷ 32 ∷ 52 ∷ 10
+    ∷ 101 ∷ 32 ∷ 52 ∷ 32 ∷ 53 ∷ 10
+    ∷ 101 ∷ 32 ∷ 49 ∷ 32 ∷ 53 ∷ 10
+    ∷ []
+
+five-cycle : (readOf five 64 .answer ≡ Read 5) × (take 5 (readOf five 64 .rows) ≡ 18 ∷ 5 ∷ 10 ∷ 20 ∷ 9 ∷ [])
 five-cycle = (refl, refl)
 
--- and written
-five-cycle-text : textOf (18 ∷ 5 ∷ 10 ∷ 20 ∷ 9 ∷ []) ≡ 112 ∷ 32 ∷ 101 ∷ 100 ∷ 103 ∷ 101 ∷ 32 ∷ 53 ∷ 32 ∷ 53 ∷ 10 ∷ 101 ∷ 32 ∷ 49 ∷ 32 ∷ 50 ∷ 10 ∷ 101 ∷ 32 ∷ 49 ∷ 32 ∷ 53 ∷ 10 ∷ 101 ∷ 32 ∷ 50 ∷ 32 ∷ 51 ∷ 10 ∷ 101 ∷ 32 ∷ 51 ∷ 32 ∷ 52 ∷ 10 ∷ 101 ∷ 32 ∷ 52 ∷ 32 ∷ 53 ∷ 10 ∷ []
+-- and written, its edges in their order
+abbrev written : List ℕ
+written =
+    112 ∷ 32 ∷ 101 ∷ 100 ∷ 103 ∷ 101 ∷ 32 ∷ 53 ∷ 32 ∷ 53 ∷ 10
+    ∷ 101 ∷ 32 ∷ 49 ∷ 32 ∷ 50 ∷ 10
+    ∷ 101 ∷ 32 ∷ 49 ∷ 32 ∷ 53 ∷ 10
+    ∷ 101 ∷ 32 ∷ 50 ∷ 32 ∷ 51 ∷ 10
+    ∷ 101 ∷ 32 ∷ 51 ∷ 32 ∷ 52 ∷ 10
+    ∷ 101 ∷ 32 ∷ 52 ∷ 32 ∷ 53 ∷ 10
+    ∷ []
+
+five-cycle-text : textOf (18 ∷ 5 ∷ 10 ∷ 20 ∷ 9 ∷ []) ≡ written
 unfolding edges numeral
 five-cycle-text = refl

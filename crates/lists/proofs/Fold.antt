@@ -126,7 +126,8 @@ module _ (most : ℕ) where
   from-bounded (unended x) room l h g k f a = tt
   from-bounded (ended x t) room l h g k f a = go (stepUpTo most h room (shapeOf x)) (step-kept most h room (shapeOf x) k f a) (λ h g. from-bounded t room (l + 1) h g k f)
     where
-      go : (st : Step) → Kept k (h .count) st → ((h : Head) (g : List ℕ) → h .n ≤ k → Bounded k (readFromUpTo most t room (l + 1) h g .answer)) → Bounded k (afterUpTo most st g l (readFromUpTo most t room (l + 1)) .answer)
+      go : (st : Step) → Kept k (h .count) st → ((h : Head) (g : List ℕ) → h .n ≤ k → Bounded k (readFromUpTo most t room (l + 1) h g .answer))
+          → Bounded k (afterUpTo most st g l (readFromUpTo most t room (l + 1)) .answer)
       go (Stop f) d r = tt
       go (Go y) d r = r y g (d .0)
       go (Edge y i j) d r = r y (join g i j) (d .0)

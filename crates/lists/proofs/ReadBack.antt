@@ -92,7 +92,11 @@ module _ (most longest : ℕ) where
       ap (stepUpTo most start room) (ap asP (pair-back n m (w .0) (w .1))) ∙ rw (le-leb n most h, le-leb n room k) in
       let v : 0 + m ≡ m = omega arith in
       sym (read-short most longest (textOf rows) room z)
-      ∙ ap (λ (x : Text). readFromUpTo most x room 1 start (noRowsUpTo most)) (two-back pWord n m (edgesText es) ((λ e. omega arith), ((λ e. omega arith), ((λ e. omega arith), ((λ e. omega arith), ((λ e. omega arith), ((λ e. omega arith), ((λ e. omega arith), tt))))))))
+      ∙ ap (λ (x : Text). readFromUpTo most x room 1 start (noRowsUpTo most))
+      (two-back pWord n m (edgesText es) (
+        (λ e. omega arith),
+        ((λ e. omega arith), ((λ e. omega arith), ((λ e. omega arith), ((λ e. omega arith), ((λ e. omega arith), ((λ e. omega arith), tt)))))),
+      ))
       ∙ ap (λ (x : Step). afterUpTo most x (noRowsUpTo most) 1 (readFromUpTo most (linesOf (edgesText es)) room 2)) s
       ∙ edges-read most es n m 0 room 2 (noRowsUpTo most) (rising rows) (w .0)
       ∙ rw (v, eq-eqb m m refl)

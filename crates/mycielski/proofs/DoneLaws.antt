@@ -1,15 +1,17 @@
 -- A loop over the members of a set, lowest first: what is done, what one turn does to it, and to tests over all that is done.
 -- Assumes nothing.
 use mathlib.Core.Path.{_≡_, refl, sym, ap, _∙_, fun-ext, subst}
-use mathlib.Core.Logic.{_⊎_, inl, inr}
+use mathlib.Core.Logic.{_⊎_, inl, inr, _≢_}
 use mathlib.Core.Bool.{Bool, true, false, not, _&&_, _||_}
-use Prim.Native.Nat.{ℕ, zero, suc, _<_}
+use Prim.Native.Nat.{ℕ, zero, suc, _+_, _<_}
 use native.Mathlib.Decide.{ℕ-discrete}
+use native.Mathlib.Omega.{arith}
 use lib.Dec.{T, eqb, eqb→eq}
 use borrow.Author.Tests.{eq-eqb, ne-eqb}
-use Rattle.sets.specs.Lists.{all, any}
+use Rattle.sets.specs.Lists.{bit, count, all, any, upto}
 use Rattle.sets.specs.Set.{has, IsWithout, IsLowest}
-use Rattle.sets.proofs.TestLaws.{and-l, and-r, and-t, and-true, or-l, or-r, or-cases, T→true, T-ext, eqb-of, all-get, all-make, any-get, any-make}
+use Rattle.sets.proofs.TestLaws.{and-l, and-r, and-t, and-true, or-false, or-l, or-r, or-cases, T→true, T→false, T-ext, eqb-of, all-get, all-make, any-get, any-make}
+use Rattle.sets.proofs.MemberLaws.{count-but}
 use Rattle.sets.proofs.SetLaws.{has-none}
 use Rattle.cliques.specs.Growth.{Within}
 
@@ -36,7 +38,7 @@ done-none s x = go (has s x)
 pub done-all : (s : ℕ) → (λ x. done s 0 x) ≡ has s
 done-all s = fun-ext (λ x. ap (λ (b : Bool). has s x && not b) (has-none x) ∙ and-true (has s x))
 
-module _ (s left v left′ : ℕ) (i : Within left s) (w : IsLowest 64 left v) (o : IsWithout left v left′) where
+module _ {cap : ℕ} (s left v left′ : ℕ) (i : Within left s) (w : IsLowest cap left v) (o : IsWithout left v left′) where
   pub within-again : Within left′ s
   within-again x t = i x (and-l (has left x) (not (eqb v x)) (subst T (o x) t))
 
@@ -104,6 +106,15 @@ module _ (n : ℕ) (q q′ f : ℕ → Bool) (u : ℕ) (b : u < n) (h : (v : ℕ
                 (and-t (q′ (r .0)) (f (r .0)) (old (r .0) (and-l (q (r .0)) (f (r .0)) (r .2))) (and-r (q (r .0)) (f (r .0)) (r .2))))
             | inr p ↦ any-make n (λ v. q′ v && f v) u b (and-t (q′ u) (f u) new p)
           ]
+
+  pub count-more : ¬ T (q u) → count (λ v. q v && f v) (upto n) + bit (f u) ≡ count (λ v. q′ v && f v) (upto n)
+  count-more out =
+      let here : bit (q′ u && f u) ≡ bit (f u) = ap (λ (a : Bool). bit (a && f u)) (T→true (q′ u) new) in
+      let before : bit (q u && f u) ≡ 0 = ap (λ (a : Bool). bit (a && f u)) (T→false (q u) out) in
+      omega (arith, here, before, count-but n (λ v. q′ v && f v) (λ v. q v && f v) u b others)
+    where
+      others : (j : ℕ) → j ≢ u → (q j && f j) ≡ (q′ j && f j)
+      others j d = ap (λ (a : Bool). a && f j) (sym (h j ∙ ap (λ (a : Bool). q j || a) (ne-eqb u j (λ e. d (sym e))) ∙ or-false (q j)))
 
 -- where nothing is done
 pub all-none : (n : ℕ) (q f : ℕ → Bool) → ((v : ℕ) → q v ≡ false) → all n (λ v. not (q v) || f v) ≡ true

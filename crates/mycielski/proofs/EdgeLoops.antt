@@ -11,11 +11,10 @@ use lib.ListN.{length, getD, set, replicate, length-set, length-replicate, getD-
 use lib.Seq.{getD-set-same, getD-set-other}
 use borrow.Author.Tests.{eq-eqb, ne-eqb}
 use Rattle.sets.specs.Set.{has, IsWith, IsWithout, IsJoin, IsLowest}
+use Rattle.sets.proofs.TestLaws.{or-false, or-assoc, eqb-turn}
 use Rattle.sets.proofs.SetLaws.{has-none}
-use Rattle.graphs.proofs.LoopLaws.{or-false}
 use Rattle.cliques.specs.Growth.{Within}
-use Rattle.cliques.proofs.WordLaws.{eqb-turn}
-use Rattle.mycielski.specs.Rounds.{Part, whole}
+use Rattle.mycielski.specs.Rounds.{Part, everyEdge}
 use Rattle.mycielski.specs.Words.{partOf, Ties}
 use Rattle.mycielski.proofs.DoneLaws.{done, done-none, done-all, within-again, done-more}
 
@@ -33,53 +32,55 @@ getD-set l v a x b P f g = go (ℕ-discrete v x)
 
 -- ---- the clique's edges
 
-pub record Whole (c : ℕ) (near : List ℕ) (left : ℕ) : Type 0 where
-  pub wide : length near ≡ 64
+pub record Joining (cap c : ℕ) (near : List ℕ) (left : ℕ) : Type 0 where
+  pub wide : length near ≡ cap
   pub within : Within left c
   pub is : (x y : ℕ) → has (getD near x zero) y ≡ (done c left x && (has c y && not (eqb x y)))
 
-pub whole-start : (c : ℕ) → Whole c (replicate 64 0) c
-whole-start c = record {
-  wide = length-replicate 64 zero;
+pub joining-start : (cap c : ℕ) → Joining cap c (replicate cap 0) c
+joining-start cap c = record {
+  wide = length-replicate cap zero;
   within = λ x t. t;
-  is = λ x y. ap (λ (s : ℕ). has s y) (zeros x (decLt x 64)) ∙ has-none y ∙ sym (ap (λ (b : Bool). b && (has c y && not (eqb x y))) (done-none c x));
+  is = λ x y. ap (λ (s : ℕ). has s y) (zeros x (decLt x cap)) ∙ has-none y ∙ sym (ap (λ (b : Bool). b && (has c y && not (eqb x y))) (done-none c x));
 }
   where
-    zeros : (x : ℕ) → Dec (x < 64) → getD (replicate 64 0) x zero ≡ 0
-    zeros x (yes b) = getD-replicate 64 x 0 0 b
-    zeros x (no b) = List·getD-eq-default (replicate 64 0) 0 (let z : length (replicate 64 zero) ≤ x = omega (arith, length-replicate 64 zero) in z)
+    zeros : (x : ℕ) → Dec (x < cap) → getD (replicate cap 0) x zero ≡ 0
+    zeros x (yes b) = getD-replicate cap x 0 0 b
+    zeros x (no b) = List·getD-eq-default (replicate cap 0) 0 (let z : length (replicate cap zero) ≤ x = omega (arith, length-replicate cap zero) in z)
 
-pub whole-again : (c : ℕ) (near : List ℕ) (left v out left′ : ℕ) → Whole c near left → IsLowest 64 left v → IsWithout c v out → IsWithout left v left′
-    → Whole c (set near v out) left′
-whole-again c near left v out left′ i w q o = record {
+pub joining-again : {cap : ℕ} (c : ℕ) (near : List ℕ) (left v out left′ : ℕ) → Joining cap c near left → IsLowest cap left v → IsWithout c v out → IsWithout left v left′
+    → Joining cap c (set near v out) left′
+joining-again c near left v out left′ i w q o = record {
   wide = length-set near v out ∙ i .wide;
   within = within-again c left v left′ (i .within) w o;
   is = λ x y.
       getD-set near v out x (omega (arith, i .wide, w .below)) (λ s. has s y ≡ (done c left′ x && (has c y && not (eqb x y))))
       (λ e. q y ∙ ap (λ (z : ℕ). has c y && not (eqb z y)) e
-      ∙ sym (ap (λ (b : Bool). b && (has c y && not (eqb x y))) (done-more c left v left′ (i .within) w o x ∙ ap (λ (b : Bool). done c left x || b) (eq-eqb v x e) ∙ or-true (done c left x))))
+      ∙ sym (ap (λ (b : Bool). b && (has c y && not (eqb x y)))
+      (done-more c left v left′ (i .within) w o x ∙ ap (λ (b : Bool). done c left x || b) (eq-eqb v x e) ∙ or-true (done c left x))))
       (λ d. i .is x y
-      ∙ sym (ap (λ (b : Bool). b && (has c y && not (eqb x y))) (done-more c left v left′ (i .within) w o x ∙ ap (λ (b : Bool). done c left x || b) (ne-eqb v x d) ∙ or-false (done c left x))));
+      ∙ sym (ap (λ (b : Bool). b && (has c y && not (eqb x y)))
+      (done-more c left v left′ (i .within) w o x ∙ ap (λ (b : Bool). done c left x || b) (ne-eqb v x d) ∙ or-false (done c left x))));
 }
   where
     or-true : (a : Bool) → (a || true) ≡ true
     or-true true = refl
     or-true false = refl
 
-pub whole-end : (c : ℕ) (near : List ℕ) → Whole c near 0 → partOf (record { set = c; near = near }) ≡ whole (has c)
-whole-end c near i =
-    part-ext (partOf (record { set = c; near = near })) (whole (has c)) (λ x. refl)
+pub joining-end : {cap : ℕ} (c : ℕ) (near : List ℕ) → Joining cap c near 0 → partOf (record { set = c; near = near }) ≡ everyEdge (has c)
+joining-end c near i =
+    part-ext (partOf (record { set = c; near = near })) (everyEdge (has c)) (λ x. refl)
     (λ x y. i .is x y ∙ ap (λ (q : ℕ → Bool). q x && (has c y && not (eqb x y))) (done-all c))
 
 -- ---- edges between u and each of ys
 
-pub record Tying (u ys : ℕ) (r₀ r : List ℕ) (left : ℕ) : Type 0 where
-  pub wide : length r ≡ 64
+pub record Tying (cap u ys : ℕ) (r₀ r : List ℕ) (left : ℕ) : Type 0 where
+  pub wide : length r ≡ cap
   pub within : Within left ys
   pub is : (x y : ℕ) → has (getD r x zero) y ≡ (has (getD r₀ x zero) y || (eqb y u && done ys left x))
 
-pub tying-start : (u ys : ℕ) (r : List ℕ) → length r ≡ 64 → Tying u ys r r ys
-tying-start u ys r l = record {
+pub tying-start : (cap : ℕ) (u ys : ℕ) (r : List ℕ) → length r ≡ cap → Tying cap u ys r r ys
+tying-start cap u ys r l = record {
   wide = l;
   within = λ x t. t;
   is = λ x y. sym (ap (λ (b : Bool). has (getD r x zero) y || (eqb y u && b)) (done-none ys x) ∙ nothing (has (getD r x zero) y) (eqb y u));
@@ -90,8 +91,8 @@ tying-start u ys r l = record {
     nothing false true = refl
     nothing false false = refl
 
-pub tying-again : (u ys : ℕ) (r₀ r : List ℕ) (left v s left′ : ℕ) → Tying u ys r₀ r left → IsLowest 64 left v → IsWith (getD r v zero) u s → IsWithout left v left′
-    → Tying u ys r₀ (set r v s) left′
+pub tying-again : {cap : ℕ} (u ys : ℕ) (r₀ r : List ℕ) (left v s left′ : ℕ) → Tying cap u ys r₀ r left → IsLowest cap left v → IsWith (getD r v zero) u s → IsWithout left v left′
+    → Tying cap u ys r₀ (set r v s) left′
 tying-again u ys r₀ r left v s left′ i w q o = record {
   wide = length-set r v s ∙ i .wide;
   within = within-again ys left v left′ (i .within) w o;
@@ -111,7 +112,7 @@ tying-again u ys r₀ r left v s left′ i w q o = record {
     here false true false = refl
     here false false c = refl
 
-laid : (near : List ℕ) (u ys s : ℕ) (r : List ℕ) → u < length near → IsJoin (getD near u zero) ys s → Tying u ys (set near u s) r 0
+laid : {cap : ℕ} (near : List ℕ) (u ys s : ℕ) (r : List ℕ) → u < length near → IsJoin (getD near u zero) ys s → Tying cap u ys (set near u s) r 0
     → (x y : ℕ) → has (getD r x zero) y ≡ (has (getD near x zero) y || (eqb x u && has ys y || eqb y u && has ys x))
 laid near u ys s r b j i x y =
     i .is x y
@@ -120,12 +121,8 @@ laid near u ys s r b j i x y =
     (λ e. j y ∙ ap₂ (λ (a c : Bool). a || (c && has ys y)) (ap (λ (z : ℕ). has (getD near z zero) y) e) (sym (eq-eqb x u (sym e))))
     (λ d. sym (ap (λ (c : Bool). has (getD near x zero) y || (c && has ys y)) (ne-eqb x u (λ e. d (sym e))) ∙ or-false (has (getD near x zero) y))))
     (ap (λ (q : ℕ → Bool). q x) (done-all ys))
-    ∙ sym (assoc (has (getD near x zero) y) (eqb x u && has ys y) (eqb y u && has ys x))
-  where
-    assoc : (a b c : Bool) → (a || (b || c)) ≡ ((a || b) || c)
-    assoc true b c = refl
-    assoc false b c = refl
+    ∙ sym (or-assoc (has (getD near x zero) y) (eqb x u && has ys y) (eqb y u && has ys x))
 
-pub tying-end : (near : List ℕ) (u ys s : ℕ) (r : List ℕ) → length near ≡ 64 → u < 64 → IsJoin (getD near u zero) ys s → Tying u ys (set near u s) r 0
+pub tying-end : (cap : ℕ) (near : List ℕ) (u ys s : ℕ) (r : List ℕ) → length near ≡ cap → u < cap → IsJoin (getD near u zero) ys s → Tying cap u ys (set near u s) r 0
     → Ties near u ys r
-tying-end near u ys s r l b j i = record { long = i .wide ∙ sym l; is = laid near u ys s r (omega arith) j i }
+tying-end cap near u ys s r l b j i = record { long = i .wide ∙ sym l; is = laid near u ys s r (omega arith) j i }

@@ -3,7 +3,7 @@ use mathlib.Core.Path.{_≡_, refl, sym, ap, ap₂, _∙_, subst}
 use mathlib.Core.Logic.{inl, inr, _≢_}
 use mathlib.Core.Bool.{Bool, true, false, not, _&&_, _||_}
 use mathlib.Core.List.{List, [], _∷_}
-use Prim.Native.Nat.{ℕ, zero, _+_, _≤_, _<_}
+use Prim.Native.Nat.{ℕ, zero, suc, _+_, _≤_, _<_}
 use native.Mathlib.Nat.{le-trans, le-of-eq}
 use native.Mathlib.Decide.{ℕ-discrete, decLt}
 use native.Mathlib.Omega.{arith}
@@ -17,76 +17,96 @@ use Rattle.sets.proofs.ListLaws.{noDup-le}
 use Rattle.sets.proofs.MemberLaws.{members-count, members-none, In-members, members-In, members-noDup}
 use Rattle.sets.proofs.SetLaws.{has-none}
 use Rattle.graphs.specs.Graph.{Graph, live}
-use Rattle.graphs.specs.Held.{view, Held}
+use Rattle.graphs.specs.Held.{view, HeldAt}
 use Rattle.graphs.specs.declared.Node.{Node}
 use Rattle.graphs.proofs.PairLaws.{of-ne, ne-of}
-use Rattle.graphs.proofs.LoopLaws.{count-next, leb-next}
+use Rattle.graphs.proofs.HeldLaws.{live-below}
 use Rattle.cliques.specs.Growth.{Within}
 use Rattle.cliques.proofs.WordLaws.{near-row}
-use Rattle.mycielski.specs.Rounds.{Part, whole, ofS, offers, ofW}
-use Rattle.mycielski.specs.Words.{misses, Lacks, Outside}
+use Rattle.mycielski.specs.Rounds.{Part, everyEdge, ofS, offers, ofW}
+use Rattle.mycielski.specs.Words.{misses, LacksAt, Outside}
 use Rattle.mycielski.specs.declared.Lack.{Lack}
-use Rattle.mycielski.proofs.DoneLaws.{imp-get, imp-make, done, done-none, done-all, within-again}
-use Rattle.mycielski.proofs.SetLoops.{live-below}
+use Rattle.mycielski.proofs.DoneLaws.{imp-get, imp-make, done, done-none, done-all, within-again, done-more, count-more}
 use Rattle.mycielski.proofs.WitnessLoops.{live-among}
 
--- ---- counts against lists
+-- ---- counts against numbers and lists
 
-count-atleast : (p : ℕ → Bool) (ks : List ℕ) → NoDup ks → ((x : ℕ) → In x ks → (x < 64) × T (p x)) → length ks ≤ count p (upto 64)
-count-atleast p ks d f = le-trans (noDup-le ks (members p 64) d (λ x i. members-In p 64 x (f x i .0) (f x i .1))) (le-of-eq (members-count p 64))
+-- at least one more: so many already, or one fewer and this one
+pub leb-next : (j m : ℕ) (b : Bool) → (leb (suc j) m || (leb j m && b)) ≡ leb (suc j) (m + bit b)
+leb-next j m false = none (leb (suc j) m) (leb j m) ∙ ap (leb (suc j)) (let e : m ≡ m + 0 = omega arith in e)
+  where
+    none : (a b : Bool) → (a || (b && false)) ≡ a
+    none true b = refl
+    none false true = refl
+    none false false = refl
+leb-next j m true = go (decLt m j)
+  where
+    go : Dec (m < j) → (leb (suc j) m || (leb j m && true)) ≡ leb (suc j) (m + 1)
+    go (yes l) = rw (lt-leb (suc j) m (omega arith), lt-leb j m l) (sym (lt-leb (suc j) (m + 1) (omega arith)))
+    go (no l) = rw (le-leb j m (omega arith)) (all (leb (suc j) m) ∙ sym (le-leb (suc j) (m + 1) (omega arith)))
+      where
+        all : (a : Bool) → (a || (true && true)) ≡ true
+        all true = refl
+        all false = refl
 
-count-atmost : (p : ℕ → Bool) (ks : List ℕ) → ((x : ℕ) → x < 64 → T (p x) → In x ks) → count p (upto 64) ≤ length ks
-count-atmost p ks f =
-    le-trans (le-of-eq (sym (members-count p 64))) (noDup-le (members p 64) ks (members-noDup p 64) (λ x i. f x (In-members p 64 x i .0) (In-members p 64 x i .1)))
+count-atleast : (cap : ℕ) (p : ℕ → Bool) (ks : List ℕ) → NoDup ks → ((x : ℕ) → In x ks → (x < cap) × T (p x)) → length ks ≤ count p (upto cap)
+count-atleast cap p ks d f = le-trans (noDup-le ks (members p cap) d (λ x i. members-In p cap x (f x i .0) (f x i .1))) (le-of-eq (members-count p cap))
+
+count-atmost : (cap : ℕ) (p : ℕ → Bool) (ks : List ℕ) → ((x : ℕ) → x < cap → T (p x) → In x ks) → count p (upto cap) ≤ length ks
+count-atmost cap p ks f =
+    le-trans (le-of-eq (sym (members-count p cap))) (noDup-le (members p cap) ks (members-noDup p cap) (λ x i. f x (In-members p cap x i .0) (In-members p cap x i .1)))
 
 -- ---- the loop that tells who lacks a member, and who two
 
-module _ (live : ℕ) (rows : List ℕ) (c : ℕ) where
+module _ (cap live : ℕ) (rows : List ℕ) (c : ℕ) where
   abbrev lacked : ℕ → ℕ → ℕ → Bool
   lacked left x v = done c left v && not (has (getD rows v zero) x)
 
   pub record Lacking (once twice left : ℕ) : Type 0 where
     pub within : Within left c
-    pub ones : (x : ℕ) → has once x ≡ (has live x && leb 1 (count (lacked left x) (upto 64)))
-    pub twos : (x : ℕ) → has twice x ≡ (has live x && leb 2 (count (lacked left x) (upto 64)))
+    pub ones : (x : ℕ) → has once x ≡ (has live x && leb 1 (count (lacked left x) (upto cap)))
+    pub twos : (x : ℕ) → has twice x ≡ (has live x && leb 2 (count (lacked left x) (upto cap)))
 
   pub lacking-start : Lacking 0 0 c
   lacking-start = record { within = λ x t. t; ones = λ x. nothing x 1 (omega arith); twos = λ x. nothing x 2 (omega arith) }
     where
-      nothing : (x j : ℕ) → 0 < j → has 0 x ≡ (has live x && leb j (count (lacked c x) (upto 64)))
+      nothing : (x j : ℕ) → 0 < j → has 0 x ≡ (has live x && leb j (count (lacked c x) (upto cap)))
       nothing x j l =
           has-none x ∙ sym (ap (λ (b : Bool). has live x && b)
-          (ap (leb j) (sym (members-count (lacked c x) 64) ∙ ap length (members-none (lacked c x) 64 (λ v b t. subst T (done-none c v) (and-l (done c c v) (not (has (getD rows v zero) x)) t))))
+          (ap (leb j) (sym (members-count (lacked c x) cap)
+          ∙ ap length (members-none (lacked c x) cap (λ v b t. subst T (done-none c v) (and-l (done c c v) (not (has (getD rows v zero) x)) t))))
           ∙ lt-leb j 0 l) ∙ none (has live x))
         where
           none : (a : Bool) → (a && false) ≡ false
           none true = refl
           none false = refl
 
-  pub lacking-end : (once twice : ℕ) → Lacking once twice 0 → Lacks live rows c (record { once = once; twice = twice })
+  pub lacking-end : (once twice : ℕ) → Lacking once twice 0 → LacksAt cap live rows c (record { once = once; twice = twice })
   lacking-end once twice i = record {
-    once = λ x. i .ones x ∙ ap (λ (q : ℕ → Bool). has live x && leb 1 (count (λ v. q v && not (has (getD rows v zero) x)) (upto 64))) (done-all c);
-    twice = λ x. i .twos x ∙ ap (λ (q : ℕ → Bool). has live x && leb 2 (count (λ v. q v && not (has (getD rows v zero) x)) (upto 64))) (done-all c);
+    once = λ x. i .ones x ∙ ap (λ (q : ℕ → Bool). has live x && leb 1 (count (λ v. q v && not (has (getD rows v zero) x)) (upto cap))) (done-all c);
+    twice = λ x. i .twos x ∙ ap (λ (q : ℕ → Bool). has live x && leb 2 (count (λ v. q v && not (has (getD rows v zero) x)) (upto cap))) (done-all c);
   }
 
-  module _ (once twice left v away both twice′ once′ left′ : ℕ) (i : Lacking once twice left) (w : IsLowest 64 left v) (wa : IsLess live (getD rows v zero) away)
+  module _ (once twice left v away both twice′ once′ left′ : ℕ) (i : Lacking once twice left) (w : IsLowest cap left v) (wa : IsLess live (getD rows v zero) away)
       (wb : IsMeet once away both) (wt : IsJoin twice both twice′) (wo : IsJoin once away once′) (o : IsWithout left v left′) where
-    more : (x : ℕ) → count (lacked left x) (upto 64) + bit (not (has (getD rows v zero) x)) ≡ count (lacked left′ x) (upto 64)
-    more x = count-next c left v left′ (λ y. not (has (getD rows y zero) x)) (i .within) w o
+    more : (x : ℕ) → count (lacked left x) (upto cap) + bit (not (has (getD rows v zero) x)) ≡ count (lacked left′ x) (upto cap)
+    more x =
+        count-more cap (done c left) (done c left′) (λ y. not (has (getD rows y zero) x)) v (w .below) (done-more c left v left′ (i .within) w o)
+        (λ t. t-not (has left v) (and-r (has c v) (not (has left v)) t) (w .member))
 
     pub lacking-again : Lacking once′ twice′ left′
     lacking-again = record {
       within = within-again c left v left′ (i .within) w o;
       ones = λ x.
           wo x ∙ ap₂ (λ (a b : Bool). a || b) (i .ones x) (wa x)
-          ∙ one (has live x) (leb 1 (count (lacked left x) (upto 64))) (not (has (getD rows v zero) x))
+          ∙ one (has live x) (leb 1 (count (lacked left x) (upto cap))) (not (has (getD rows v zero) x))
           ∙ ap (λ (b : Bool). has live x && b)
-          (ap (λ (b : Bool). leb 1 (count (lacked left x) (upto 64)) || (b && not (has (getD rows v zero) x))) (sym (le-leb 0 (count (lacked left x) (upto 64)) (omega arith)))
-          ∙ leb-next 0 (count (lacked left x) (upto 64)) (not (has (getD rows v zero) x)) ∙ ap (leb 1) (more x));
+          (ap (λ (b : Bool). leb 1 (count (lacked left x) (upto cap)) || (b && not (has (getD rows v zero) x))) (sym (le-leb 0 (count (lacked left x) (upto cap)) (omega arith)))
+          ∙ leb-next 0 (count (lacked left x) (upto cap)) (not (has (getD rows v zero) x)) ∙ ap (leb 1) (more x));
       twos = λ x.
           wt x ∙ ap₂ (λ (a b : Bool). a || b) (i .twos x) (wb x ∙ ap₂ (λ (a b : Bool). a && b) (i .ones x) (wa x))
-          ∙ two (has live x) (leb 2 (count (lacked left x) (upto 64))) (leb 1 (count (lacked left x) (upto 64))) (not (has (getD rows v zero) x))
-          ∙ ap (λ (b : Bool). has live x && b) (leb-next 1 (count (lacked left x) (upto 64)) (not (has (getD rows v zero) x)) ∙ ap (leb 2) (more x));
+          ∙ two (has live x) (leb 2 (count (lacked left x) (upto cap))) (leb 1 (count (lacked left x) (upto cap))) (not (has (getD rows v zero) x))
+          ∙ ap (λ (b : Bool). has live x && b) (leb-next 1 (count (lacked left x) (upto cap)) (not (has (getD rows v zero) x)) ∙ ap (leb 2) (more x));
     }
       where
         one : (l a b : Bool) → ((l && a) || (l && b)) ≡ (l && (a || (true && b)))
@@ -99,7 +119,7 @@ module _ (live : ℕ) (rows : List ℕ) (c : ℕ) where
 
 -- ---- S(v), and where W is
 
-module _ (h : Node) (k : Held h) (c : ℕ) (verts : Within c (h .live)) (lack : Lack) (l : Lacks (h .live) (h .rows) c lack) where
+module _ {cap : ℕ} (h : Node) (k : HeldAt cap h) (c : ℕ) (verts : Within c (h .live)) (lack : Lack) (l : LacksAt cap (h .live) (h .rows) c lack) where
   abbrev g : Graph
   g = view h
 
@@ -107,14 +127,14 @@ module _ (h : Node) (k : Held h) (c : ℕ) (verts : Within c (h .live)) (lack : 
   n = h .n
 
   abbrev H : Part
-  H = whole (has c)
+  H = everyEdge (has c)
 
   -- x lacks v
   abbrev bare : ℕ → ℕ → Bool
   bare x v = has c v && not (has (getD (h .rows) v zero) x)
 
-  small : (v : ℕ) → T (has c v) → v < 64
-  small v t = let b = live-below h k v (verts v t) in let z : v < 64 = omega (arith, k .few) in z
+  small : (v : ℕ) → T (has c v) → v < cap
+  small v t = let b = live-below h k v (verts v t) in let z : v < cap = omega (arith, k .few) in z
 
   -- of S(v)'s members only v can be lacked
   module _ (v x : ℕ) (cv : T (has c v)) (t : T (ofS n g H v x)) where
@@ -139,13 +159,14 @@ module _ (h : Node) (k : Held h) (c : ℕ) (verts : Within c (h .live)) (lack : 
             absurd (t-not (has (getD (h .rows) y zero) x) (and-r (has c y) (not (has (getD (h .rows) y zero) x)) u)
             (and-r (has (h .live) x) (has (getD (h .rows) y zero) x) (subst T (near-row h k y x (verts y cy)) (near (λ e. d (sym e))))))
 
-    not-two : misses (h .rows) c x ≤ 1
-    not-two = count-atmost (bare x) (v ∷ []) (λ y b u. inl (v-alone y u))
+    not-two : misses cap (h .rows) c x ≤ 1
+    not-two = count-atmost cap (bare x) (v ∷ []) (λ y b u. inl (v-alone y u))
 
-    not-one : T (has (getD (h .rows) v zero) x) → misses (h .rows) c x ≤ 0
+    not-one : T (has (getD (h .rows) v zero) x) → misses cap (h .rows) c x ≤ 0
     not-one r =
-        count-atmost (bare x) []
-        (λ y b u. t-not (has (getD (h .rows) y zero) x) (and-r (has c y) (not (has (getD (h .rows) y zero) x)) u) (subst (λ z. T (has (getD (h .rows) z zero) x)) (sym (v-alone y u)) r))
+        count-atmost cap (bare x) []
+        (λ y b u. t-not (has (getD (h .rows) y zero) x) (and-r (has c y) (not (has (getD (h .rows) y zero) x)) u)
+        (subst (λ z. T (has (getD (h .rows) z zero) x)) (sym (v-alone y u)) r))
 
   pub first-serving : (v few q s : ℕ) → T (has c v) → IsLess (h .live) (lack .twice) few → IsMeet (lack .once) (getD (h .rows) v zero) q → IsLess few q s
       → (x : ℕ) → has s x ≡ ofS n g H v x
@@ -162,14 +183,14 @@ module _ (h : Node) (k : Held h) (c : ℕ) (verts : Within c (h .live)) (lack : 
           lx : T (has (h .live) x)
           lx = and-l (has (h .live) x) (not (has (lack .twice) x)) (subst T (wf x) in-few)
 
-          few-lacked : misses (h .rows) c x < 2
-          few-lacked = go (decLt (misses (h .rows) c x) 2)
+          few-lacked : misses cap (h .rows) c x < 2
+          few-lacked = go (decLt (misses cap (h .rows) c x) 2)
             where
-              go : Dec (misses (h .rows) c x < 2) → misses (h .rows) c x < 2
+              go : Dec (misses cap (h .rows) c x < 2) → misses cap (h .rows) c x < 2
               go (yes b) = b
               go (no b) =
                   absurd (t-not (has (lack .twice) x) (and-r (has (h .live) x) (not (has (lack .twice) x)) (subst T (wf x) in-few))
-                  (subst T (sym (l .twice x)) (and-t (has (h .live) x) (leb 2 (misses (h .rows) c x)) lx (le→leb 2 (misses (h .rows) c x) (omega arith)))))
+                  (subst T (sym (l .twice x)) (and-t (has (h .live) x) (leb 2 (misses cap (h .rows) c x)) lx (le→leb 2 (misses cap (h .rows) c x) (omega arith)))))
 
           near : (y : ℕ) → T (H .edge v y) → T (g .adj x y)
           near y e = go (T? (has (getD (h .rows) y zero) x))
@@ -189,40 +210,45 @@ module _ (h : Node) (k : Held h) (c : ℕ) (verts : Within c (h .live)) (lack : 
 
                   in-once : T (has (lack .once) x)
                   in-once =
-                      subst T (sym (l .once x)) (and-t (has (h .live) x) (leb 1 (misses (h .rows) c x)) lx
-                      (le→leb 1 (misses (h .rows) c x) (count-atleast (bare x) (y ∷ []) (λ i. i, tt) (λ z i. elim i [ inl a ↦ rw a (small y cy, lack-y) | inr a ↦ absurd a ]))))
+                      subst T (sym (l .once x)) (and-t (has (h .live) x) (leb 1 (misses cap (h .rows) c x)) lx
+                      (le→leb 1 (misses cap (h .rows) c x)
+                      (count-atleast cap (bare x) (y ∷ []) (λ i. i, tt) (λ z i. elim i [ inl a ↦ rw a (small y cy, lack-y) | inr a ↦ absurd a ]))))
 
                   lack-v : T (bare x v)
                   lack-v =
                       and-t (has c v) (not (has (getD (h .rows) v zero) x)) cv
                       (not-t (has (getD (h .rows) v zero) x)
-                      (λ u. t-not (has q x) (and-r (has few x) (not (has q x)) (subst T (ws x) t)) (subst T (sym (wq x)) (and-t (has (lack .once) x) (has (getD (h .rows) v zero) x) in-once u))))
+                      (λ u. t-not (has q x) (and-r (has few x) (not (has q x)) (subst T (ws x) t))
+                      (subst T (sym (wq x)) (and-t (has (lack .once) x) (has (getD (h .rows) v zero) x) in-once u))))
 
-                  both : 2 ≤ misses (h .rows) c x
+                  both : 2 ≤ misses cap (h .rows) c x
                   both =
-                      count-atleast (bare x) (v ∷ y ∷ []) (λ i. elim i [ inl a ↦ apart a | inr a ↦ a ], (λ i. i, tt))
+                      count-atleast cap (bare x) (v ∷ y ∷ []) (λ i. elim i [ inl a ↦ apart a | inr a ↦ a ], (λ i. i, tt))
                       (λ z i. elim i [ inl a ↦ rw a (small v cv, lack-v) | inr j ↦ elim j [ inl a ↦ rw a (small y cy, lack-y) | inr a ↦ absurd a ] ])
 
       back : T (ofS n g H v x) → T (has s x)
       back t =
           subst T (sym (ws x)) (and-t (has few x) (not (has q x))
           (subst T (sym (wf x)) (and-t (has (h .live) x) (not (has (lack .twice) x)) (live-x v x cv t)
-          (not-t (has (lack .twice) x) (λ u. let a = leb→le 2 (misses (h .rows) c x) (and-r (has (h .live) x) (leb 2 (misses (h .rows) c x)) (subst T (l .twice x) u)) in
+          (not-t (has (lack .twice) x) (λ u. let a = leb→le 2 (misses cap (h .rows) c x) (and-r (has (h .live) x) (leb 2 (misses cap (h .rows) c x)) (subst T (l .twice x) u)) in
           let z : ⊥ = omega (arith, not-two v x cv t) in z))))
           (not-t (has q x) (λ u.
           let r = subst T (wq x) u in
-          let a = leb→le 1 (misses (h .rows) c x) (and-r (has (h .live) x) (leb 1 (misses (h .rows) c x)) (subst T (l .once x) (and-l (has (lack .once) x) (has (getD (h .rows) v zero) x) r))) in
+          let a = leb→le 1 (misses cap (h .rows) c x)
+          (and-r (has (h .live) x) (leb 1 (misses cap (h .rows) c x)) (subst T (l .once x) (and-l (has (lack .once) x) (has (getD (h .rows) v zero) x) r))) in
           let z : ⊥ = omega (arith, not-one v x cv t (and-r (has (lack .once) x) (has (getD (h .rows) v zero) x) r)) in z)))
 
   -- no member of c is in W, where every vertex lacks some member
   member-not : lack .once ≡ h .live → (w : ℕ) → T (has c w) → ¬ T (ofW n g H w)
   member-not e w cw t =
       let b = live-below h k w (verts w cw) in
-      let a = imp-get (has c w) (any n (offers n g H w w)) (all-get n (λ v. not (has c v) || any n (offers n g H w v)) (and-r (live n g w) (all n (λ v. not (has c v) || any n (offers n g H w v))) t) w b) cw in
+      let a = imp-get (has c w) (any n (offers n g H w w))
+      (all-get n (λ v. not (has c v) || any n (offers n g H w v)) (and-r (live n g w) (all n (λ v. not (has c v) || any n (offers n g H w v))) t) w b) cw in
       let r = any-get n (offers n g H w w) a in
       let s = and-l (ofS n g H w (r .0)) (g .adj w (r .0)) (r .2) in
-      let near = and-r (has (h .live) (r .0)) (has (getD (h .rows) w zero) (r .0)) (and-r (has (h .live) w) (has (h .live) (r .0) && has (getD (h .rows) w zero) (r .0)) (and-r (ofS n g H w (r .0)) (g .adj w (r .0)) (r .2))) in
-      let one = leb→le 1 (misses (h .rows) c (r .0)) (and-r (has (h .live) (r .0)) (leb 1 (misses (h .rows) c (r .0)))
+      let near = and-r (has (h .live) (r .0)) (has (getD (h .rows) w zero) (r .0))
+      (and-r (has (h .live) w) (has (h .live) (r .0) && has (getD (h .rows) w zero) (r .0)) (and-r (ofS n g H w (r .0)) (g .adj w (r .0)) (r .2))) in
+      let one = leb→le 1 (misses cap (h .rows) c (r .0)) (and-r (has (h .live) (r .0)) (leb 1 (misses cap (h .rows) c (r .0)))
       (subst T (l .once (r .0)) (subst (λ m. T (has m (r .0))) (sym e) (live-x w (r .0) cw s)))) in
       let z : ⊥ = omega (arith, not-one w (r .0) cw s near) in
       z

@@ -8,22 +8,22 @@ use lib.Dec.{T}
 use lib.ListN.{length, getD, set, replicate, length-set, length-replicate}
 use borrow.Author.Tests.{ne-eqb}
 use Rattle.sets.specs.Set.{has, IsWithout, IsLowest}
-use Rattle.graphs.proofs.LoopLaws.{or-false}
+use Rattle.sets.proofs.TestLaws.{or-false}
 use Rattle.cliques.specs.Growth.{Within}
 use Rattle.mycielski.proofs.DoneLaws.{done, done-none, done-all, within-again, done-more}
 use Rattle.mycielski.proofs.EdgeLoops.{getD-set}
 
 -- `serves v x`: x is in S(v)
-module _ (verts : ℕ) (serves : ℕ → ℕ → Bool) where
+module _ (cap verts : ℕ) (serves : ℕ → ℕ → Bool) where
   pub record Fitting (fit : List ℕ) (left : ℕ) : Type 0 where
-    pub wide : length fit ≡ 64
+    pub wide : length fit ≡ cap
     pub within : Within left verts
     pub is : (v : ℕ) → T (done verts left v) → (x : ℕ) → has (getD fit v zero) x ≡ serves v x
 
-  pub fitting-start : Fitting (replicate 64 0) verts
-  fitting-start = record { wide = length-replicate 64 zero; within = λ x t. t; is = λ v t. absurd (subst T (done-none verts v) t) }
+  pub fitting-start : Fitting (replicate cap 0) verts
+  fitting-start = record { wide = length-replicate cap zero; within = λ x t. t; is = λ v t. absurd (subst T (done-none verts v) t) }
 
-  pub fitting-again : (fit : List ℕ) (left v s left′ : ℕ) → Fitting fit left → IsLowest 64 left v → ((x : ℕ) → has s x ≡ serves v x) → IsWithout left v left′
+  pub fitting-again : (fit : List ℕ) (left v s left′ : ℕ) → Fitting fit left → IsLowest cap left v → ((x : ℕ) → has s x ≡ serves v x) → IsWithout left v left′
       → Fitting (set fit v s) left′
   fitting-again fit left v s left′ i w q o = record {
     wide = length-set fit v s ∙ i .wide;

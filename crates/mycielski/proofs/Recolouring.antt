@@ -96,4 +96,5 @@ lower n live adj H E b v e h f p =
     le-trans (m .enough)
     (noDup-le (m .labels) (distinct ℤ-discrete [] (map f (members live n))) (m .once)
     (λ x i. let t = m .from x i in let k = v (t .0) (t .1) in
-    distinct-new ℤ-discrete [] (map f (members live n)) x (subst (λ z. In z (map f (members live n))) (sym (t .2)) (In-map f (members live n) (t .0) (members-In live n (t .0) (k .0) (k .1))))))
+    distinct-new ℤ-discrete [] (map f (members live n)) x
+    (subst (λ z. In z (map f (members live n))) (sym (t .2)) (In-map f (members live n) (t .0) (members-In live n (t .0) (k .0) (k .1))))))

@@ -26,7 +26,7 @@ use Rattle.graphs.proofs.GraphLaws.{live-of, of-live}
 use Rattle.cliques.specs.Clique.{isIn, clique, IsClique}
 use Rattle.cliques.proofs.ListLaws.{in-of, of-in}
 use Rattle.cliques.proofs.CliqueLaws.{clique-is, clique-full}
-use Rattle.mycielski.specs.Rounds.{Part, whole, offers, ofW, chosen, tied, extend, full, onward, rounds, limit, mycielskian}
+use Rattle.mycielski.specs.Rounds.{Part, everyEdge, offers, ofW, chosen, tied, extend, full, round, rounds, limit, mycielskian}
 use Rattle.mycielski.proofs.DoneLaws.{imp-get}
 use Rattle.mycielski.proofs.Recolouring.{Holds, clique-holds, round-holds, lower}
 
@@ -61,19 +61,19 @@ module _ (n : ℕ) (g : Graph) (k : Good n g) where
     pub edges : (x y : ℕ) → T (h .edge x y) → T (g .adj x y)
     pub holds : Holds ℤ-discrete (λ x. T (h .vert x)) (λ x y. T (h .edge x y)) b
 
-  pub whole-fine : (c : List ℕ) → IsClique n g c → Fine (whole (λ x. isIn x c)) (length c)
-  whole-fine c q = record {
+  pub clique-fine : (c : List ℕ) → IsClique n g c → Fine (everyEdge (λ x. isIn x c)) (length c)
+  clique-fine c q = record {
     within = λ x y t. let r = un x y t in (of-in x c (r .0), of-in y c (r .1));
     symm = λ x y t. let r = un x y t in mk y x (r .1) (r .0) (λ e. r .2 (sym e));
     lives = λ x t. q .lives x (in-of x c t);
     edges = λ x y t. let r = un x y t in q .pairs x y (r .0) (r .1) (r .2);
-    holds = clique-holds ℤ-discrete (λ x. T (isIn x c)) (λ x y. T (whole (λ x. isIn x c) .edge x y)) c (q .once-each) (λ x i. of-in x c i) (λ x y i j h. mk x y i j h);
+    holds = clique-holds ℤ-discrete (λ x. T (isIn x c)) (λ x y. T (everyEdge (λ x. isIn x c) .edge x y)) c (q .once-each) (λ x i. of-in x c i) (λ x y i j h. mk x y i j h);
   }
     where
-      un : (x y : ℕ) → T (whole (λ x. isIn x c) .edge x y) → In x c × In y c × (x ≢ y)
+      un : (x y : ℕ) → T (everyEdge (λ x. isIn x c) .edge x y) → In x c × In y c × (x ≢ y)
       un x y t = (in-of x c (search out), in-of y c (search out), search out)
 
-      mk : (x y : ℕ) → In x c → In y c → x ≢ y → T (whole (λ x. isIn x c) .edge x y)
+      mk : (x y : ℕ) → In x c → In y c → x ≢ y → T (everyEdge (λ x. isIn x c) .edge x y)
       mk x y i j h = search (in-to, of-in)
 
   -- ---- one round
@@ -237,20 +237,20 @@ module _ (n : ℕ) (g : Graph) (k : Good n g) where
       go (full n g h) (lowest (ofW n g h) n) (λ w e. rounds-ind P base m (extend n g h w) (suc b) (fine-round h b f w (lowest-some (ofW n g h) n w e .1)))
     where
       go : (t : Bool) (o : Option ℕ) → ((w : ℕ) → o ≡ some w → P (rounds n g m (extend n g h w) (suc b)))
-          → P (onward t o b (λ w. rounds n g m (extend n g h w) (suc b)))
+          → P (round t o b (λ w. rounds n g m (extend n g h w) (suc b)))
       go true o r = base h b f
       go false none r = base h b f
       go false (some w) r = r w refl
 
-  start : Fine (whole (λ x. isIn x (clique n g))) (length (clique n g))
-  start = whole-fine (clique n g) (clique-is n g k)
+  start : Fine (everyEdge (λ x. isIn x (clique n g))) (length (clique n g))
+  start = clique-fine (clique n g) (clique-is n g k)
 
   pub clique-lower : Lower n (live n g) (g .adj) (length (clique n g))
-  clique-lower = fine-lower (whole (λ x. isIn x (clique n g))) (length (clique n g)) start
+  clique-lower = fine-lower (everyEdge (λ x. isIn x (clique n g))) (length (clique n g)) start
 
   pub mycielskian-lower : Lower n (live n g) (g .adj) (mycielskian n g)
   unfolding mycielskian
-  mycielskian-lower = rounds-ind (Lower n (live n g) (g .adj)) fine-lower (limit n) (whole (λ x. isIn x (clique n g))) (length (clique n g)) start
+  mycielskian-lower = rounds-ind (Lower n (live n g) (g .adj)) fine-lower (limit n) (everyEdge (λ x. isIn x (clique n g))) (length (clique n g)) start
 
   -- ---- no more than the vertices, no less than the clique
 
@@ -274,14 +274,14 @@ module _ (n : ℕ) (g : Graph) (k : Good n g) where
   rounds-le zero h b = le-refl b
   rounds-le (suc m) h b = go (full n g h) (lowest (ofW n g h) n) (λ w. rounds-le m (extend n g h w) (suc b))
     where
-      go : (t : Bool) (o : Option ℕ) → ((w : ℕ) → suc b ≤ rounds n g m (extend n g h w) (suc b)) → b ≤ onward t o b (λ w. rounds n g m (extend n g h w) (suc b))
+      go : (t : Bool) (o : Option ℕ) → ((w : ℕ) → suc b ≤ rounds n g m (extend n g h w) (suc b)) → b ≤ round t o b (λ w. rounds n g m (extend n g h w) (suc b))
       go true o r = le-refl b
       go false none r = le-refl b
       go false (some w) r = omega (arith, r w)
 
   pub clique-le : length (clique n g) ≤ mycielskian n g
   unfolding mycielskian
-  clique-le = rounds-le (limit n) (whole (λ x. isIn x (clique n g))) (length (clique n g))
+  clique-le = rounds-le (limit n) (everyEdge (λ x. isIn x (clique n g))) (length (clique n g))
 
   -- in a complete graph
   pub mycielskian-full : ((x y : ℕ) → Live n g x → Live n g y → x ≢ y → T (g .adj x y)) → mycielskian n g ≡ length (vertices n g)
@@ -300,12 +300,12 @@ module _ (n : ℕ) (g : Graph) (k : Good n g) where
       (λ w e. rounds-end m j (extend n g h w) (suc b) (fine-round h b f w (lowest-some (ofW n g h) n w e .1)) (omega arith) (omega arith))
     where
       go : (t : Bool) (o : Option ℕ) → ((w : ℕ) → o ≡ some w → rounds n g m (extend n g h w) (suc b) ≡ rounds n g j (extend n g h w) (suc b))
-          → onward t o b (λ w. rounds n g m (extend n g h w) (suc b)) ≡ onward t o b (λ w. rounds n g j (extend n g h w) (suc b))
+          → round t o b (λ w. rounds n g m (extend n g h w) (suc b)) ≡ round t o b (λ w. rounds n g j (extend n g h w) (suc b))
       go true o r = refl
       go false none r = refl
       go false (some w) r = r w refl
 
   -- any greater limit gives the same bound
-  pub mycielskian-end : (j : ℕ) → rounds n g (limit n + j) (whole (λ x. isIn x (clique n g))) (length (clique n g)) ≡ mycielskian n g
+  pub mycielskian-end : (j : ℕ) → rounds n g (limit n + j) (everyEdge (λ x. isIn x (clique n g))) (length (clique n g)) ≡ mycielskian n g
   unfolding mycielskian
-  mycielskian-end j = rounds-end (limit n + j) (limit n) (whole (λ x. isIn x (clique n g))) (length (clique n g)) start (omega arith) (omega arith)
+  mycielskian-end j = rounds-end (limit n + j) (limit n) (everyEdge (λ x. isIn x (clique n g))) (length (clique n g)) start (omega arith) (omega arith)

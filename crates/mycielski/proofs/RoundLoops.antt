@@ -8,24 +8,22 @@ use lib.Dec.{T, eqb}
 use lib.ListN.{length, getD}
 use Rattle.sets.specs.Lists.{all, any}
 use Rattle.sets.specs.Set.{has, IsWith, IsWithout, IsMeet, IsLowest}
-use Rattle.sets.proofs.TestLaws.{and-l, and-r, and-t, T-ext, all-get, any-get}
+use Rattle.sets.proofs.TestLaws.{and-l, and-r, and-t, or-false, or-turn, T-ext, eqb-turn, all-get, any-get}
 use Rattle.sets.proofs.MemberLaws.{lowest-is}
 use Rattle.sets.proofs.SetLaws.{has-none}
 use Rattle.graphs.specs.Graph.{Graph, live}
-use Rattle.graphs.specs.Held.{view, Held}
+use Rattle.graphs.specs.Held.{view, HeldAt}
 use Rattle.graphs.specs.declared.Node.{Node}
-use Rattle.graphs.proofs.LoopLaws.{or-false}
+use Rattle.graphs.proofs.HeldLaws.{live-below}
 use Rattle.cliques.specs.Growth.{Within}
-use Rattle.cliques.proofs.WordLaws.{eqb-turn}
 use Rattle.mycielski.specs.Rounds.{Part, nearAll, ofS, offers, ofW, chosen, tied, extend}
-use Rattle.mycielski.specs.Words.{partOf, Inside, Ties}
+use Rattle.mycielski.specs.Words.{partOf, Among, Ties}
 use Rattle.mycielski.specs.declared.Sub.{Sub}
 use Rattle.mycielski.proofs.DoneLaws.{imp-get, done, done-none, done-all, within-again, done-more, any-more, any-none}
-use Rattle.mycielski.proofs.SetLoops.{live-below}
 use Rattle.mycielski.proofs.EdgeLoops.{part-ext}
 use Rattle.mycielski.proofs.WitnessLoops.{serving-live}
 
-module _ (h : Node) (k : Held h) (p : Sub) (ins : Inside (h .live) p) where
+module _ {cap : ℕ} (h : Node) (k : HeldAt cap h) (p : Sub) (ins : Among (h .live) p) where
   abbrev g : Graph
   g = view h
 
@@ -50,7 +48,8 @@ module _ (h : Node) (k : Held h) (p : Sub) (ins : Inside (h .live) p) where
               let a = and-l (has s x) (has (getD (h .rows) w zero) x) u in
               and-t (ofS n g H v x) (g .adj w x) (subst T (e x) a)
               (and-t (has (h .live) w) (has (h .live) x && has (getD (h .rows) w zero) x) live-w
-              (and-t (has (h .live) x) (has (getD (h .rows) w zero) x) (serving-live h k (p .set) (H .edge) (ins .verts) v s e x a) (and-r (has s x) (has (getD (h .rows) w zero) x) u)))
+              (and-t (has (h .live) x) (has (getD (h .rows) w zero) x) (serving-live h k (p .set) (H .edge) (ins .verts) v s e x a)
+              (and-r (has s x) (has (getD (h .rows) w zero) x) u)))
 
           back : T (offers n g H w v x) → T (has m x)
           back t =
@@ -68,25 +67,28 @@ module _ (h : Node) (k : Held h) (p : Sub) (ins : Inside (h .live) p) where
           subst T (has-none (r .0)) (subst (λ c. T (has c (r .0))) z (subst T (sym (offers-is (r .0))) (r .2)))
 
       -- the lowest is the chosen one
-      pub chosen-is : (u : ℕ) → IsLowest 64 m u → chosen n g H w v ≡ u
+      pub chosen-is : (u : ℕ) → IsLowest cap m u → chosen n g H w v ≡ u
       chosen-is u l =
           ap (λ (o : Option ℕ). Option·getD o zero)
-          (lowest-is (offers n g H w v) n u (live-below h k u (serving-live h k (p .set) (H .edge) (ins .verts) v s e u (and-l (has s u) (has (getD (h .rows) w zero) u) (subst T (q u) (l .member)))))
+          (lowest-is (offers n g H w v) n u
+          (live-below h k u (serving-live h k (p .set) (H .edge) (ins .verts) v s e u (and-l (has s u) (has (getD (h .rows) w zero) u) (subst T (q u) (l .member)))))
           (subst T (offers-is u) (l .member)) (λ j b t. l .least j b (subst T (sym (offers-is j)) t)))
 
     pub record Extending (next : Sub) (left : ℕ) : Type 0 where
-      pub wide : length (next .near) ≡ 64
+      pub wide : length (next .near) ≡ cap
       pub within : Within left (p .set)
       pub verts : (x : ℕ) → has (next .set) x ≡ (has (p .set) x || (eqb x w || any n (λ v. done (p .set) left v && eqb x (chosen n g H w v))))
       pub edges : (x y : ℕ)
           → has (getD (next .near) x zero) y ≡ (has (getD (p .near) x zero) y || any n (λ v. done (p .set) left v && (tied n g H w v x y || tied n g H w v y x)))
 
-    pub extending-start : (s : ℕ) → length (p .near) ≡ 64 → IsWith (p .set) w s → Extending (record { set = s; near = p .near }) (p .set)
+    pub extending-start : (s : ℕ) → length (p .near) ≡ cap → IsWith (p .set) w s → Extending (record { set = s; near = p .near }) (p .set)
     extending-start s l q = record {
       wide = l;
       within = λ x t. t;
       verts = λ x.
-          q x ∙ ap (λ (b : Bool). has (p .set) x || b) (eqb-turn w x ∙ sym (or-false (eqb x w)) ∙ ap (λ (b : Bool). eqb x w || b) (sym (any-none n (λ v. done (p .set) (p .set) v) (λ v. eqb x (chosen n g H w v)) (done-none (p .set)))));
+          q x ∙ ap (λ (b : Bool). has (p .set) x || b)
+          (eqb-turn w x ∙ sym (or-false (eqb x w)) ∙ ap (λ (b : Bool). eqb x w || b)
+          (sym (any-none n (λ v. done (p .set) (p .set) v) (λ v. eqb x (chosen n g H w v)) (done-none (p .set)))));
       edges = λ x y.
           sym (ap (λ (b : Bool). has (getD (p .near) x zero) y || b)
           (any-none n (λ v. done (p .set) (p .set) v) (λ v. tied n g H w v x y || tied n g H w v y x) (done-none (p .set))) ∙ or-false (has (getD (p .near) x zero) y));
@@ -99,8 +101,8 @@ module _ (h : Node) (k : Held h) (p : Sub) (ins : Inside (h .live) p) where
         (λ x y. i .edges x y ∙ ap (λ (q : ℕ → Bool). has (getD (p .near) x zero) y || any n (λ v. q v && (tied n g H w v x y || tied n g H w v y x))) (done-all (p .set)))
 
     -- one vertex of H more
-    pub extending-again : (next : Sub) (left v s m u ys set′ : ℕ) (near′ : List ℕ) (left′ : ℕ) → Extending next left → IsLowest 64 left v
-        → ((x : ℕ) → has s x ≡ nearAll n g (has (getD (p .near) v zero)) x) → IsMeet s (getD (h .rows) w zero) m → IsLowest 64 m u
+    pub extending-again : (next : Sub) (left v s m u ys set′ : ℕ) (near′ : List ℕ) (left′ : ℕ) → Extending next left → IsLowest cap left v
+        → ((x : ℕ) → has s x ≡ nearAll n g (has (getD (p .near) v zero)) x) → IsMeet s (getD (h .rows) w zero) m → IsLowest cap m u
         → IsWith (getD (p .near) v zero) w ys → IsWith (next .set) u set′ → Ties (next .near) u ys near′ → IsWithout left v left′
         → Extending (record { set = set′; near = near′ }) left′
     extending-again next left v s m u ys set′ near′ left′ i l e q lu wy a t o = record {
@@ -109,7 +111,8 @@ module _ (h : Node) (k : Held h) (p : Sub) (ins : Inside (h .live) p) where
       verts = λ x.
           a x ∙ ap₂ (λ (a b : Bool). a || b) (i .verts x) (eqb-turn u x ∙ ap (eqb x) (sym is))
           ∙ three (has (p .set) x) (eqb x w) (any n (λ z. done (p .set) left z && eqb x (chosen n g H w z))) (eqb x (chosen n g H w v))
-          ∙ ap (λ (b : Bool). has (p .set) x || (eqb x w || b)) (sym (any-more n (λ z. done (p .set) left z) (λ z. done (p .set) left′ z) (λ z. eqb x (chosen n g H w z)) v below more));
+          ∙ ap (λ (b : Bool). has (p .set) x || (eqb x w || b))
+          (sym (any-more n (λ z. done (p .set) left z) (λ z. done (p .set) left′ z) (λ z. eqb x (chosen n g H w z)) v below more));
       edges = λ x y.
           t .is x y
           ∙ ap₂ (λ (a b : Bool). a || b) (i .edges x y) (ap₂ (λ (a b : Bool). a || b) (tie x y) (tie y x))
@@ -127,16 +130,10 @@ module _ (h : Node) (k : Held h) (p : Sub) (ins : Inside (h .live) p) where
         is : chosen n g H w v ≡ u
         is = chosen-is v s m e q u lu
 
-        turn : (a b : Bool) → (a || b) ≡ (b || a)
-        turn true true = refl
-        turn true false = refl
-        turn false true = refl
-        turn false false = refl
-
         tie : (x y : ℕ) → (eqb x u && has ys y) ≡ tied n g H w v x y
         tie x y =
             ap₂ (λ (a b : Bool). a && b) (ap (eqb x) (sym is))
-            (wy y ∙ turn (has (getD (p .near) v zero) y) (eqb w y) ∙ ap (λ (b : Bool). b || has (getD (p .near) v zero) y) (eqb-turn w y))
+            (wy y ∙ or-turn (has (getD (p .near) v zero) y) (eqb w y) ∙ ap (λ (b : Bool). b || has (getD (p .near) v zero) y) (eqb-turn w y))
 
         two : (a b c : Bool) → ((a || b) || c) ≡ (a || (b || c))
         two true b c = refl

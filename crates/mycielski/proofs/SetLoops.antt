@@ -1,7 +1,7 @@
 -- S(v) and the vertices that it reaches, gathered over the members of a set, lowest first. Assumes nothing.
-use mathlib.Core.Path.{_≡_, refl, sym, ap, ap₂, _∙_, subst}
+use mathlib.Core.Path.{_≡_, refl, sym, ap, ap₂, _∙_}
 use mathlib.Core.Bool.{Bool, true, false, not, _&&_, _||_}
-use Prim.Native.Nat.{ℕ, zero, _<_}
+use Prim.Native.Nat.{ℕ, zero}
 use lib.Dec.{T}
 use lib.ListN.{getD}
 use Rattle.sets.specs.Lists.{all, any}
@@ -9,24 +9,21 @@ use Rattle.sets.specs.Set.{has, IsWithout, IsMeet, IsJoin, IsLowest}
 use Rattle.sets.proofs.TestLaws.{and-true}
 use Rattle.sets.proofs.SetLaws.{has-none}
 use Rattle.graphs.specs.Graph.{Graph, live}
-use Rattle.graphs.specs.Held.{view, Held}
+use Rattle.graphs.specs.Held.{view, HeldAt}
 use Rattle.graphs.specs.declared.Node.{Node}
-use Rattle.graphs.proofs.GraphLaws.{live-of}
+use Rattle.graphs.proofs.HeldLaws.{live-below}
 use Rattle.cliques.specs.Growth.{Within}
 use Rattle.cliques.proofs.WordLaws.{near-row}
 use Rattle.mycielski.specs.Rounds.{nearAll}
 use Rattle.mycielski.specs.Words.{reachable}
 use Rattle.mycielski.proofs.DoneLaws.{done, done-none, done-all, within-again, done-more, all-more, any-more, all-none, any-none}
 
-module _ (h : Node) (k : Held h) where
+module _ {cap : ℕ} (h : Node) (k : HeldAt cap h) where
   abbrev g : Graph
   g = view h
 
   abbrev n : ℕ
   n = h .n
-
-  pub live-below : (x : ℕ) → T (has (h .live) x) → x < n
-  live-below x t = live-of n g x (subst T (k .lives x) t) .below
 
   -- ---- S(v)
 
@@ -43,7 +40,7 @@ module _ (h : Node) (k : Held h) where
   pub serving-end : (near s : ℕ) → Serving near s 0 → (x : ℕ) → has s x ≡ nearAll n g (has near) x
   serving-end near s i x = i .is x ∙ ap (λ (q : ℕ → Bool). nearAll n g q x) (done-all near)
 
-  pub serving-again : (near s left v s′ left′ : ℕ) → Within near (h .live) → Serving near s left → IsLowest 64 left v → IsMeet s (getD (h .rows) v zero) s′
+  pub serving-again : (near s left v s′ left′ : ℕ) → Within near (h .live) → Serving near s left → IsLowest cap left v → IsMeet s (getD (h .rows) v zero) s′
       → IsWithout left v left′ → Serving near s′ left′
   serving-again near s left v s′ left′ l i w m o = record {
     within = within-again near left v left′ (i .within) w o;
@@ -52,7 +49,7 @@ module _ (h : Node) (k : Held h) where
         ∙ shuffle (has (h .live) x) (old x) (has (getD (h .rows) v zero) x)
         ∙ ap₂ (λ (a b : Bool). a && (old x && b)) (k .lives x) (sym (near-row h k v x live-v))
         ∙ ap (λ (b : Bool). live n g x && b)
-        (sym (all-more n (λ y. done near left y) (λ y. done near left′ y) (λ y. g .adj x y) v (live-below v live-v) (done-more near left v left′ (i .within) w o)));
+        (sym (all-more n (λ y. done near left y) (λ y. done near left′ y) (λ y. g .adj x y) v (live-below h k v live-v) (done-more near left v left′ (i .within) w o)));
   }
     where
       live-v : T (has (h .live) v)
@@ -85,14 +82,14 @@ module _ (h : Node) (k : Held h) where
   pub reached-end : (s r : ℕ) → Reached s r 0 → (w : ℕ) → (has (h .live) w && has r w) ≡ reachable n g s w
   reached-end s r i w = i .is w ∙ ap (λ (q : ℕ → Bool). any n (λ x. q x && g .adj w x)) (done-all s)
 
-  pub reached-again : (s r left x r′ left′ : ℕ) → Within s (h .live) → Reached s r left → IsLowest 64 left x → IsJoin r (getD (h .rows) x zero) r′
+  pub reached-again : (s r left x r′ left′ : ℕ) → Within s (h .live) → Reached s r left → IsLowest cap left x → IsJoin r (getD (h .rows) x zero) r′
       → IsWithout left x left′ → Reached s r′ left′
   reached-again s r left x r′ left′ l i w j o = record {
     within = within-again s left x left′ (i .within) w o;
     is = λ y.
         ap (λ (b : Bool). has (h .live) y && b) (j y) ∙ spread (has (h .live) y) (has r y) (has (getD (h .rows) x zero) y)
         ∙ ap₂ (λ (a b : Bool). a || b) (i .is y) (sym (near-row h k x y live-x))
-        ∙ sym (any-more n (λ z. done s left z) (λ z. done s left′ z) (λ z. g .adj y z) x (live-below x live-x) (done-more s left x left′ (i .within) w o));
+        ∙ sym (any-more n (λ z. done s left z) (λ z. done s left′ z) (λ z. g .adj y z) x (live-below h k x live-x) (done-more s left x left′ (i .within) w o));
   }
     where
       live-x : T (has (h .live) x)

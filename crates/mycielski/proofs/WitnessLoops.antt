@@ -8,15 +8,15 @@ use Rattle.sets.specs.Set.{has, IsWithout, IsMeet, IsLowest}
 use Rattle.sets.proofs.TestLaws.{and-l, and-r, and-t, and-true, T→false, T-ext, all-get, all-make}
 use Rattle.sets.proofs.SetLaws.{has-none}
 use Rattle.graphs.specs.Graph.{Graph, live}
-use Rattle.graphs.specs.Held.{view, Held}
+use Rattle.graphs.specs.Held.{view, HeldAt}
 use Rattle.graphs.specs.declared.Node.{Node}
+use Rattle.graphs.proofs.HeldLaws.{live-below}
 use Rattle.cliques.specs.Growth.{Within}
 use Rattle.mycielski.specs.Rounds.{Part, ofS, offers, ofW}
 use Rattle.mycielski.specs.Words.{reachable}
 use Rattle.mycielski.proofs.DoneLaws.{imp-get, imp-make, done, done-none, done-all, within-again, done-more, all-more, all-none}
-use Rattle.mycielski.proofs.SetLoops.{live-below}
 
-module _ (h : Node) (k : Held h) (set : ℕ) (edge : ℕ → ℕ → Bool) (verts : Within set (h .live)) where
+module _ {cap : ℕ} (h : Node) (k : HeldAt cap h) (set : ℕ) (edge : ℕ → ℕ → Bool) (verts : Within set (h .live)) where
   abbrev g : Graph
   g = view h
 
@@ -73,7 +73,7 @@ module _ (h : Node) (k : Held h) (set : ℕ) (edge : ℕ → ℕ → Bool) (vert
               (and-l (has set v) (not (has left v)) d))))))
 
     -- one vertex of H more
-    pub witness-more : (ws left v s r ws′ left′ : ℕ) → Witness from ws left → IsLowest 64 left v
+    pub witness-more : (ws left v s r ws′ left′ : ℕ) → Witness from ws left → IsLowest cap left v
         → ((x : ℕ) → has s x ≡ ofS n g H v x) → ((w : ℕ) → (has (h .live) w && has r w) ≡ reachable n g s w)
         → IsMeet ws r ws′ → IsWithout left v left′ → Witness from ws′ left′
     witness-more ws left v s r ws′ left′ i w e reach m o = record {

@@ -1,7 +1,7 @@
 -- Document 01, "The two bounds": the Mycielskian bound of a node (document 000, Algorithm 1, with its free choices fixed).
 --
 --   Part             : H: some of the graph's vertices, and edges of its own between some of them
---   whole p          : the vertices that pass p, with every edge between two of them
+--   everyEdge p      : the vertices that pass p, with every edge between two of them
 --   nearAll n g q x  : x is a vertex that is adjacent to every y that passes q
 --   ofS n g h v x    : x is in S(v): a vertex that is adjacent to every H-neighbour of v
 --   offers n g h w v x : x is in S(v) and adjacent to w
@@ -10,6 +10,7 @@
 --   tied n g h w v x y : x is the member chosen for v, and y is w or an old H-neighbour of v
 --   extend n g h w   : H with w and the chosen members; w tied to each of them, and each to the old H-neighbours of its v
 --   full n g h       : H has as many vertices as the graph
+--   round t o b next : b, where H is full (t) or W is empty (o has none); else what comes next of the lowest w of W
 --   rounds n g k h b : the bound after at most k rounds from H, with bound b
 --   limit n          : as many rounds as are always enough: more change nothing (`mycielskian-end` of proofs/RoundLaws.antt)
 --   mycielskian n g  : the bound, from H the clique and b its size; the rounds are limited by the bound itself
@@ -28,8 +29,8 @@ pub record Part : Type 0 where
   pub vert : ℕ → Bool
   pub edge : ℕ → ℕ → Bool
 
-abbrev pub whole : (ℕ → Bool) → Part
-whole p = record { vert = p; edge = λ x y. p x && (p y && not (eqb x y)) }
+abbrev pub everyEdge : (ℕ → Bool) → Part
+everyEdge p = record { vert = p; edge = λ x y. p x && (p y && not (eqb x y)) }
 
 abbrev pub nearAll : ℕ → Graph → (ℕ → Bool) → ℕ → Bool
 nearAll n g q x = live n g x && all n (λ y. not (q y) || g .adj x y)
@@ -58,18 +59,17 @@ extend n g h w = record {
 abbrev pub full : ℕ → Graph → Part → Bool
 full n g h = leb (length (vertices n g)) (count (h .vert) (upto n))
 
--- b where H is full or W is empty, else on with the lowest w
-abbrev pub onward : Bool → Option ℕ → ℕ → (ℕ → ℕ) → ℕ
-onward true o b next = b
-onward false none b next = b
-onward false (some w) b next = next w
+abbrev pub round : Bool → Option ℕ → ℕ → (ℕ → ℕ) → ℕ
+round true o b next = b
+round false none b next = b
+round false (some w) b next = next w
 
 abbrev pub rounds : ℕ → Graph → ℕ → Part → ℕ → ℕ
 rounds n g zero h b = b
-rounds n g (suc k) h b = onward (full n g h) (lowest (ofW n g h) n) b (λ w. rounds n g k (extend n g h w) (suc b))
+rounds n g (suc k) h b = round (full n g h) (lowest (ofW n g h) n) b (λ w. rounds n g k (extend n g h w) (suc b))
 
 abbrev pub limit : ℕ → ℕ
 limit n = suc n
 
 unfoldable pub mycielskian : ℕ → Graph → ℕ
-mycielskian n g = rounds n g (limit n) (whole (λ x. isIn x (clique n g))) (length (clique n g))
+mycielskian n g = rounds n g (limit n) (everyEdge (λ x. isIn x (clique n g))) (length (clique n g))

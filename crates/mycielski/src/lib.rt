@@ -18,8 +18,8 @@ ghost use Rattle.sets.specs.Set.{has, size as sizeOf};
 ghost use Rattle.graphs.specs.Held.{view, Held, Holds, Each};
 ghost use Rattle.cliques.specs.Clique.{clique};
 ghost use Rattle.cliques.specs.Growth.{IsSetOf, Within};
-ghost use Rattle.mycielski.specs.Rounds.{whole as wholeOf, nearAll, ofW, extend, mycielskian};
-ghost use Rattle.mycielski.specs.Words.{partOf, Inside, reachable, Serves, ServesAll, Ties, Lacks, Outside, Climbs};
+ghost use Rattle.mycielski.specs.Rounds.{everyEdge, nearAll, ofW, extend, mycielskian};
+ghost use Rattle.mycielski.specs.Words.{partOf, Among, reachable, Serves, ServesAll, Ties, Lacks, Outside, Climbs};
 
 // H: its vertices, and for each the vertices that an edge of H joins it to.
 pub struct Sub {
@@ -35,7 +35,7 @@ pub struct Lack {
 
 // The clique c, with every edge between two of its members.
 pub fn whole(c: u64) -> Sub
-    ensures { λ r. ⌜ partOf r ≡ wholeOf (has c) ⌝ }
+    ensures { λ r. ⌜ partOf r ≡ everyEdge (has c) ⌝ }
 {
     let mut near = [0u64; 64];
     let mut left = c;
@@ -126,7 +126,7 @@ fn outside(live: u64, c: u64, once: u64) -> u64
 // W of the first round, where H is c: S(v) has the vertices that lack no member of c, or v alone.
 pub fn first_witnesses(live: u64, rows: &[u64; 64], c: u64) -> u64
     requires { ⌜ Within c live ⌝ }
-    ensures { λ r. ⌜ Each live (now (rows .entry)) (λ h. (x : ℕ) → has r x ≡ ofW (h .n) (view h) (wholeOf (has c)) x) ⌝ }
+    ensures { λ r. ⌜ Each live (now (rows .entry)) (λ h. (x : ℕ) → has r x ≡ ofW (h .n) (view h) (everyEdge (has c)) x) ⌝ }
 {
     let lack = lacking(live, rows, c);
     let few = less(live, lack.twice);
@@ -146,7 +146,7 @@ pub fn first_witnesses(live: u64, rows: &[u64; 64], c: u64) -> u64
 
 // W: the live vertices that are adjacent, for each v in H, to some member of S(v).
 pub fn witnesses(live: u64, rows: &[u64; 64], set: u64, near: &[u64; 64]) -> u64
-    requires { ⌜ Inside live (record { set = set; near = now near }) ⌝ }
+    requires { ⌜ Among live (record { set = set; near = now near }) ⌝ }
     ensures { λ r. ⌜ Each live (now (rows .entry)) (λ h. (x : ℕ) → has r x ≡ ofW (h .n) (view h) (partOf (record { set = set; near = now (near .entry) })) x) ⌝ }
 {
     let mut ws = live;
@@ -165,7 +165,7 @@ pub fn witnesses(live: u64, rows: &[u64; 64], set: u64, near: &[u64; 64]) -> u64
 
 // S(v) of each v in H.
 pub fn servings(live: u64, rows: &[u64; 64], set: u64, near: &[u64; 64]) -> [u64; 64]
-    requires { ⌜ Inside live (record { set = set; near = now near }) ⌝ }
+    requires { ⌜ Among live (record { set = set; near = now near }) ⌝ }
     ensures { λ r. ⌜ Each live (now (rows .entry)) (λ h. Serves (h .n) (view h) (record { set = set; near = now (near .entry) }) r) ⌝ }
 {
     let mut fit = [0u64; 64];
@@ -199,7 +199,7 @@ pub fn first_servings(live: u64, rows: &[u64; 64], c: u64) -> [u64; 64]
 // and to v's old H-neighbours.
 pub fn extended(live: u64, rows: &[u64; 64], p: Sub, w: usize, fit: &[u64; 64]) -> Sub
     requires { ⌜ Holds live (now rows) ⌝ }
-    requires { ⌜ Inside live p ⌝ }
+    requires { ⌜ Among live p ⌝ }
     requires { ⌜ w < 64 ⌝ }
     requires { ⌜ Each live (now rows) (λ h. T (ofW (h .n) (view h) (partOf p) w)) ⌝ }
     requires { ⌜ Each live (now rows) (λ h. Serves (h .n) (view h) p (now fit)) ⌝ }
@@ -229,7 +229,7 @@ pub fn extended(live: u64, rows: &[u64; 64], p: Sub, w: usize, fit: &[u64; 64]) 
 pub fn climb(live: u64, rows: &[u64; 64], c: u64, ws: u64, enough: usize) -> usize
     requires { ⌜ Holds live (now rows) ⌝ }
     requires { ⌜ Each live (now rows) (λ h. IsSetOf (clique (h .n) (view h)) c) ⌝ }
-    requires { ⌜ Each live (now rows) (λ h. (x : ℕ) → has ws x ≡ ofW (h .n) (view h) (wholeOf (has c)) x) ⌝ }
+    requires { ⌜ Each live (now rows) (λ h. (x : ℕ) → has ws x ≡ ofW (h .n) (view h) (everyEdge (has c)) x) ⌝ }
     requires { ⌜ (ws ≡ 0 → ⊥) ⌝ }
     requires { ⌜ sizeOf 64 c < sizeOf 64 live ⌝ }
     ensures { λ r. ⌜ Each live (now (rows .entry)) (λ h. Climbs (mycielskian (h .n) (view h)) enough r) ⌝ }

@@ -12,7 +12,7 @@ use native.Mathlib.Omega.{arith}
 use lib.Arith.{lt-one, bin-ind}
 use lib.Bits.{bitwise, bitwise-step, bitAnd, bitOr, and-step, or-step, and-zero-l, block-half, block-odd}
 use lib.Count.{ones, ones-step, trailingZeros, under}
-use lib.Dec.{T, eqb, ltb, leb, eqb→eq, eqb·zero-suc, eqb·suc-zero, eqb·suc-suc, leb·zero, leb·suc-zero, leb·suc-suc}
+use lib.Dec.{T, eqb, ltb, eqb→eq, eqb·zero-suc, eqb·suc-zero, eqb·suc-suc, leb·zero, leb·suc-zero, leb·suc-suc}
 use lib.Pow.{shr-shr, pow-mono, pow-pos}
 use borrow.Author.Tests.{eq-eqb, ne-eqb}
 use Rattle.sets.specs.Lists.{bit, count, table, upto, members, lowest}

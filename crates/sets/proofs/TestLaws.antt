@@ -1,12 +1,12 @@
 -- Laws of tests: what passes, what fails, and tests over 0 to n - 1. Assumes nothing.
-use mathlib.Core.Path.{_≡_, refl, subst}
+use mathlib.Core.Path.{_≡_, refl, sym, subst}
 use mathlib.Core.Logic.{_⊎_, inl, inr}
 use mathlib.Core.Bool.{Bool, true, false, not, _&&_, _||_}
 use Prim.Native.Nat.{ℕ, zero, suc, _+_, _≤_, _<_}
 use native.Mathlib.Nat.{not-suc-le-zero}
 use native.Mathlib.Decide.{ℕ-discrete}
 use native.Mathlib.Omega.{arith}
-use lib.Dec.{T, eqb, eqb-refl}
+use lib.Dec.{T, eqb, eqb-refl, eqb→eq}
 use borrow.Author.Tests.{eq-eqb}
 use Rattle.sets.specs.Lists.{bit, all, any}
 
@@ -25,6 +25,24 @@ and-t false b t u = t
 pub and-true : (a : Bool) → (a && true) ≡ a
 and-true true = refl
 and-true false = refl
+
+pub and-turn : (a b : Bool) → (a && b) ≡ (b && a)
+and-turn true b = sym (and-true b)
+and-turn false true = refl
+and-turn false false = refl
+
+pub or-false : (a : Bool) → (a || false) ≡ a
+or-false true = refl
+or-false false = refl
+
+pub or-turn : (a b : Bool) → (a || b) ≡ (b || a)
+or-turn true true = refl
+or-turn true false = refl
+or-turn false b = sym (or-false b)
+
+pub or-assoc : (a b c : Bool) → (a || (b || c)) ≡ ((a || b) || c)
+or-assoc true b c = refl
+or-assoc false b c = refl
 
 pub or-l : (a b : Bool) → T a → T (a || b)
 or-l true b t = tt
@@ -67,6 +85,9 @@ eqb-of m k e = subst (λ (x : ℕ). T (eqb m x)) e (eqb-refl m)
 
 pub eqb-same : (x : ℕ) → eqb x x ≡ true
 eqb-same x = eq-eqb x x refl
+
+pub eqb-turn : (m k : ℕ) → eqb m k ≡ eqb k m
+eqb-turn m k = T-ext (eqb m k) (eqb k m) (λ t. eqb-of k m (sym (eqb→eq m k t))) (λ t. eqb-of m k (sym (eqb→eq k m t)))
 
 pub bit-few : (b : Bool) → bit b ≤ 1
 bit-few true = omega arith

@@ -113,7 +113,8 @@ module _ (most longest : ℕ) (list : List ℕ) (n : ℕ) (e : readUpTo most lon
 
 -- ---- the two calls
 
-module _ (most longest : ℕ) (c old : List ℕ) (sevens : length c < 10000000) (short : length (sheetText c) ≤ longest) (k : ℕ) (out list lent : List ℕ) (a : Checked) (new : List ℕ) (w : WritePromiseUpTo most c old (Length k) out) (x : CheckPromiseUpTo most longest list (take k out) lent a new)
+module _ (most longest : ℕ) (c old : List ℕ) (sevens : length c < 10000000) (short : length (sheetText c) ≤ longest) (k : ℕ) (out list lent : List ℕ) (a : Checked)
+    (new : List ℕ) (w : WritePromiseUpTo most c old (Length k) out) (x : CheckPromiseUpTo most longest list (take k out) lent a new)
     (e : readUpTo most longest list most .answer ≡ Read (length c)) (room : length c ≤ length lent) where
   outcome : (o : Outcome) → sheetUpTo most longest (length c) (matrix (readUpTo most longest list most .rows)) (sheetText c) ≡ o → (a ≡ o .answer) × (new ≡ writtenOf o lent)
   outcome o q =

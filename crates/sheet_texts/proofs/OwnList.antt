@@ -57,7 +57,9 @@ module _ (most : ℕ) where
       small true l n = fits (leb m room) refl l n
       small false l n = refl
 
-      seen : (b : Bool) → h .seen ≡ b → ((f : Fault) → ¬ (cond b (Stop Fault.Second) (cond (leb m most) (cond (leb m room) (Go (record { seen = true; n = m; m = e; count = 0 })) (Stop Fault.Room)) (Stop Fault.Size)) ≡ Stop f))
+      seen : (b : Bool) → h .seen ≡ b
+          → ((f : Fault) → ¬ (cond b (Stop Fault.Second)
+          (cond (leb m most) (cond (leb m room) (Go (record { seen = true; n = m; m = e; count = 0 })) (Stop Fault.Room)) (Stop Fault.Size)) ≡ Stop f))
           → cond b (Stop Fault.Second) (cond (leb m most) (cond (leb m most) (Go (record { seen = true; n = m; m = e; count = 0 })) (Stop Fault.Room)) (Stop Fault.Size))
           ≡ cond b (Stop Fault.Second) (cond (leb m most) (cond (leb m room) (Go (record { seen = true; n = m; m = e; count = 0 })) (Stop Fault.Room)) (Stop Fault.Size))
       seen true q n = refl
@@ -94,7 +96,9 @@ module _ (most longest : ℕ) where
 
 module _ (most : ℕ) where
   from-size : (t : Text) (room k : ℕ) (h : Head) (g : List ℕ) → length g ≡ most → length (readFromUpTo most t room k h g .rows) ≡ most
-  from-size done room k h g z = cond-cases (λ (x : Found). length (x .rows) ≡ most) (h .seen) _ _ (λ _. cond-cases (λ (x : Found). length (x .rows) ≡ most) (eqb (h .count) (h .m)) _ _ (λ _. z) (λ _. length-replicate most 0)) (λ _. length-replicate most 0)
+  from-size done room k h g z =
+      cond-cases (λ (x : Found). length (x .rows) ≡ most) (h .seen) _ _
+      (λ _. cond-cases (λ (x : Found). length (x .rows) ≡ most) (eqb (h .count) (h .m)) _ _ (λ _. z) (λ _. length-replicate most 0)) (λ _. length-replicate most 0)
   from-size (unended l) room k h g z = length-replicate most 0
   from-size (ended l t) room k h g z = go (stepUpTo most h room (shapeOf l)) (from-size t room (k + 1))
     where
@@ -105,7 +109,9 @@ module _ (most : ℕ) where
 
 module _ (most longest : ℕ) where
   read-size : (s : List ℕ) (room : ℕ) → length (readUpTo most longest s room .rows) ≡ most
-  read-size s room = cond-cases (λ (x : Found). length (x .rows) ≡ most) (leb (length s) longest) _ _ (λ _. from-size most (linesOf s) room 1 start (noRowsUpTo most) (length-replicate most 0)) (λ _. length-replicate most 0)
+  read-size s room =
+      cond-cases (λ (x : Found). length (x .rows) ≡ most) (leb (length s) longest) _ _
+      (λ _. from-size most (linesOf s) room 1 start (noRowsUpTo most) (length-replicate most 0)) (λ _. length-replicate most 0)
 
 -- the rows that were handed over are those of the list
 module _ (most longest : ℕ) (text lent : List ℕ) (n : ℕ) (rows : List ℕ) (x : ReadPromiseUpTo most longest text lent (Read n) rows) where

@@ -178,7 +178,8 @@ module _ (most n : ℕ) (sevens : n < 10000000) (clash : ℕ → ℕ → Bool) w
           → checkFromUpTo most (linesOf (memberLines l ++ rest)) n clash (k + 1) (placed p (i + 1)) (λ j. mates j || eqb i j) earlier (set colours i g)
           ≡ found most (clashIn clash (i ∷ seen) l (k + 1)) (checkFromUpTo most (linesOf rest) n clash (k + 1 + length l) (placedAll p (i ∷ l)) (addAll mates (i ∷ l)) earlier (setAll colours (i ∷ l) g))
           → afterUpTo most (cond b (Stop Clash) (Place (placed p (i + 1)) i g)) k mates earlier colours (checkFromUpTo most (linesOf (memberLines l ++ rest)) n clash (k + 1))
-          ≡ found most (cond b (some k) (clashIn clash (i ∷ seen) l (k + 1))) (checkFromUpTo most (linesOf rest) n clash (k + suc (length l)) (placedAll p (i ∷ l)) (addAll mates (i ∷ l)) earlier (setAll colours (i ∷ l) g))
+          ≡ found most (cond b (some k) (clashIn clash (i ∷ seen) l (k + 1)))
+          (checkFromUpTo most (linesOf rest) n clash (k + suc (length l)) (placedAll p (i ∷ l)) (addAll mates (i ∷ l)) earlier (setAll colours (i ∷ l) g))
       go true h = refl
       go false h = let e : k + 1 + length l ≡ k + suc (length l) = omega arith in h ∙ rw e
 
@@ -242,7 +243,9 @@ module _ (most : ℕ) (c : List ℕ) (canon : Canon 0 c) (few : length c ≤ mos
           left = omega (arith, a .left, st .left);
           opened = a .opened ∙ ap (λ (x : ℕ). x + 1) (st .opened);
           before = λ j b e. let f = first-is in let l = led .leads j b (omega arith) in omega arith;
-          seen-back = λ j t. ⊎-elim (λ x. omega (arith, st .seen-back j x)) (λ x. omega (arith, of-member c g canon j (isIn-In m j (subst T (add-is nobody m j) x)) .1)) (or-cases (earlier j || mates j) (addAll nobody m j) t);
+          seen-back =
+              λ j t. ⊎-elim (λ x. omega (arith, st .seen-back j x)) (λ x. omega (arith, of-member c g canon j (isIn-In m j (subst T (add-is nobody m j) x)) .1))
+              (or-cases (earlier j || mates j) (addAll nobody m j) t);
           seen = λ j b e. put-in j b e (decLt (at c j) g);
           size = set-length colours m g ∙ st .size;
           coloured = λ j b e. put-colour j b e (decLt (at c j) g);
@@ -267,7 +270,8 @@ module _ (most : ℕ) (c : List ℕ) (canon : Canon 0 c) (few : length c ≤ mos
         let t = memberLines m ++ rest in
         let b : 1 ≤ length m = omega (arith, ap length (led .whole)) in
         ap (λ (x : List ℕ). checkFromUpTo most (linesOf x) n clash line p mates earlier colours) (append-assoc (oneLine sizeWord (length m)) (memberLines m) rest)
-        ∙ ap (λ (x : Text). checkFromUpTo most x n clash line p mates earlier colours) (one-back sizeWord (length m) t ((λ e. omega arith), ((λ e. omega arith), ((λ e. omega arith), ((λ e. omega arith), ((λ e. omega arith), tt))))))
+        ∙ ap (λ (x : Text). checkFromUpTo most x n clash line p mates earlier colours)
+        (one-back sizeWord (length m) t ((λ e. omega arith), ((λ e. omega arith), ((λ e. omega arith), ((λ e. omega arith), ((λ e. omega arith), tt))))))
         ∙ ap (λ (x : Step). afterUpTo most x line mates earlier colours (checkFromUpTo most (linesOf t) n clash (line + 1))) (size-step g p mates earlier (st .begun) (st .need) (omega (arith, st .left)) b)
         ∙ members-read most n sevens clash g (opening g p) nobody (λ j. earlier j || mates j) [] m rest colours (line + 1) ready
 
@@ -317,7 +321,9 @@ module _ (most : ℕ) (c : List ℕ) (canon : Canon 0 c) (few : length c ≤ mos
   }
 
   -- a written sheet, checked: 34 at the first clash, or accepted with the same k and the same group numbers
-  pub sheet-up-to-read : (longest : ℕ) → length (sheetText c) ≤ longest → (w : List ℕ) × (take (length c) w ≡ c) × (sheetUpTo most longest (length c) clash (sheetText c) ≡ found most (clashLine clash c) (accepted (length c) (groups 0 c) w))
+  pub sheet-up-to-read : (longest : ℕ) → length (sheetText c) ≤ longest
+      → (w : List ℕ) × (take (length c) w ≡ c) × (sheetUpTo most longest (length c) clash (sheetText c)
+      ≡ found most (clashLine clash c) (accepted (length c) (groups 0 c) w))
   unfolding sheetText clashLine
   sheet-up-to-read longest short =
       let k = groups 0 c in
@@ -326,8 +332,13 @@ module _ (most : ℕ) (c : List ℕ) (canon : Canon 0 c) (few : length c ≤ mos
         r .0,
         r .1,
         rw (le-leb (length (sheetText c)) longest short)
-            (ap (λ (x : Text). checkFromUpTo most x n clash 1 start nobody nobody (noColoursUpTo most)) (one-back groupsWord k (groupsText c 0 k) ((λ e. omega arith), ((λ e. omega arith), ((λ e. omega arith), ((λ e. omega arith), ((λ e. omega arith), ((λ e. omega arith), ((λ e. omega arith), tt))))))))
-            ∙ ap (λ (x : Step). afterUpTo most x 1 nobody nobody (noColoursUpTo most) (checkFromUpTo most (linesOf (groupsText c 0 k)) n clash 2)) (at-groups n clash start nobody nobody (groupsWord ++ numeral k) (Only k) refl (alone-back k (omega arith)))
+            (ap (λ (x : Text). checkFromUpTo most x n clash 1 start nobody nobody (noColoursUpTo most))
+            (one-back groupsWord k (groupsText c 0 k) (
+              (λ e. omega arith),
+              ((λ e. omega arith), ((λ e. omega arith), ((λ e. omega arith), ((λ e. omega arith), ((λ e. omega arith), ((λ e. omega arith), tt)))))),
+            ))
+            ∙ ap (λ (x : Step). afterUpTo most x 1 nobody nobody (noColoursUpTo most) (checkFromUpTo most (linesOf (groupsText c 0 k)) n clash 2))
+            (at-groups n clash start nobody nobody (groupsWord ++ numeral k) (Only k) refl (alone-back k (omega arith)))
             ∙ r .2),
       )
 

@@ -173,8 +173,12 @@ module _ (most n : ℕ) (clash : ℕ → ℕ → Bool) where
       go : (st : Step) → InLine st → ((p : Progress) (m w : ℕ → Bool) (g : List ℕ) → Names (k + 1) (k + 1 + lineCount t) (checkFromUpTo most t n clash (k + 1) p m w g .answer))
           → Names k (k + suc (lineCount t)) (afterUpTo most st k m w g (checkFromUpTo most t n clash (k + 1)) .answer)
       go (Stop f) i r = i k (k + suc (lineCount t)) (omega arith)
-      go (Count q) i r = names-later (checkFromUpTo most t n clash (k + 1) q none (λ j. w j || m j) g .answer) k (k + 1) (k + 1 + lineCount t) (k + suc (lineCount t)) (omega arith) (omega arith) (r q none (λ j. w j || m j) g)
-      go (Place q x c) i r = names-later (checkFromUpTo most t n clash (k + 1) q (λ j. m j || eqb x j) w (set g x c) .answer) k (k + 1) (k + 1 + lineCount t) (k + suc (lineCount t)) (omega arith) (omega arith) (r q (λ j. m j || eqb x j) w (set g x c))
+      go (Count q) i r =
+          names-later (checkFromUpTo most t n clash (k + 1) q none (λ j. w j || m j) g .answer) k (k + 1) (k + 1 + lineCount t) (k + suc (lineCount t)) (omega arith)
+          (omega arith) (r q none (λ j. w j || m j) g)
+      go (Place q x c) i r =
+          names-later (checkFromUpTo most t n clash (k + 1) q (λ j. m j || eqb x j) w (set g x c) .answer) k (k + 1) (k + 1 + lineCount t) (k + suc (lineCount t))
+          (omega arith) (omega arith) (r q (λ j. m j || eqb x j) w (set g x c))
 
   -- a sheet that is not too long: 35 and 36 name the number of lines plus one, any other fault one of its lines, from 1
   pub sheet-names : (longest : ℕ) (s : List ℕ) → length s ≤ longest → Names 1 (1 + lineCount (linesOf s)) (sheetUpTo most longest n clash s .answer)
@@ -268,7 +272,9 @@ module _ (most longest : ℕ) where
           let z : 1 + lineCount (linesOf s) ≡ suc (lineCount (linesOf s)) = omega arith in
           cond-cases E (leb n room) _ _
           (λ _. cond-cases E (leb (length s) longest) _ _
-          (λ _. subst (λ (e : ℕ). Ending e (checkFromUpTo most (linesOf s) n clash 1 start none none (noColoursUpTo most) .answer)) z (names-ending (checkFromUpTo most (linesOf s) n clash 1 start none none (noColoursUpTo most) .answer) 1 (1 + lineCount (linesOf s)) (from-names most n clash (linesOf s) 1 start none none (noColoursUpTo most))))
+          (λ _. subst (λ (e : ℕ). Ending e (checkFromUpTo most (linesOf s) n clash 1 start none none (noColoursUpTo most) .answer)) z
+          (names-ending (checkFromUpTo most (linesOf s) n clash 1 start none none (noColoursUpTo most) .answer) 1 (1 + lineCount (linesOf s))
+          (from-names most n clash (linesOf s) 1 start none none (noColoursUpTo most))))
           (λ _. tt))
           (λ _. tt)
 

@@ -5,7 +5,9 @@
 --   faultPart list s room  : the part that is shown for a check with so many colour bytes
 --   PlacePromise list s room p : p is that part
 --
--- Which text is as in a check's numbers (specs/Promise.antt); for neither, an accepted pair, the part is empty. That the part at this place is the very part that `fault_line` returns is `place-shown` of proofs/Places.antt. Assumes nothing.
+-- Which text is as in a check's numbers (specs/Promise.antt); for neither, an accepted pair, the part is empty. That the part at this place is the
+-- very part that `fault_line` returns is `place-shown` of proofs/Places.antt. Part and promise are stated for any limits (`faultPartUpTo most
+-- longest`, ..) and then named for today's. Assumes nothing.
 use Prim.Native.Nat.{ℕ, zero, suc, _-_}
 use mathlib.Core.Path.{_≡_}
 use mathlib.Core.List.{List}

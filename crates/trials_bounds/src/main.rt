@@ -2,28 +2,31 @@
 // complete list of 64. A line for each: the clique bound, then the Mycielskian. What it writes is held to the file stdout; tests/bound_lists.py has
 // the constructions that the rows come from.
 use bounds::Bound;
-use libc::STDOUT_FILENO;
+use refusals::Refusal;
 
-fn say(word: &[u8], number: usize) {
-    io::write_all(STDOUT_FILENO, word);
-    io::print_decimal(STDOUT_FILENO, number as u64);
+fn refused(why: Refusal, row: usize) {
+    trials::put(b" refused ");
+    trials::put_refused_row(why, row);
 }
 
 fn tell(b: Bound) {
     match b {
-        Bound::At(value) => say(b" ", value),
-        Bound::Many => say(b" refused 1 row ", 0),
-        Bound::Stray(row) => say(b" refused 2 row ", row),
-        Bound::Itself(row) => say(b" refused 3 row ", row),
-        Bound::OneSided(row) => say(b" refused 4 row ", row),
+        Bound::At(value) => {
+            trials::put(b" ");
+            trials::put_number(value);
+        }
+        Bound::Many => refused(Refusal::Many, 0),
+        Bound::Stray(row) => refused(Refusal::Stray, row),
+        Bound::Itself(row) => refused(Refusal::Itself, row),
+        Bound::OneSided(row) => refused(Refusal::OneSided, row),
     }
 }
 
 fn show(name: &[u8], rows: &[u64]) {
-    io::write_all(STDOUT_FILENO, name);
+    trials::put(name);
     tell(bounds::clique_bound(rows));
     tell(bounds::mycielskian_bound(rows));
-    io::write_all(STDOUT_FILENO, b"\n");
+    trials::put(b"\n");
 }
 
 // The starred lists of document 01's table.
@@ -40,7 +43,7 @@ fn starred() {
 }
 
 // Its refusals.
-fn refused() {
+fn refusals_of_rows() {
     let many = [0u64; 65];
     show(b"65 rows:", &many);
     show(b"2:", &[2]);
@@ -232,7 +235,7 @@ fn complete() {
 
 fn main() {
     starred();
-    refused();
+    refusals_of_rows();
     myciel3();
     myciel4();
     queen5();

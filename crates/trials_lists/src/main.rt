@@ -2,7 +2,6 @@
 // Before each text stands a line "R B": how many rows are lent, and how many bytes the text has. What this writes is held to the file
 // stdout, which tests/awkward_texts.py makes from document 01 alone.
 use libc::STDIN_FILENO;
-use libc::STDOUT_FILENO;
 use lines::Pair;
 use lists::Reading;
 use lists::Written;
@@ -16,14 +15,6 @@ ghost use Rattle.trials_lists.specs.Case.{Within};
 enum Next {
     Text(usize, usize, usize),
     Over,
-}
-
-fn put(s: &[u8]) {
-    io::write_all(STDOUT_FILENO, s);
-}
-
-fn put_number(n: u64) {
-    io::print_decimal(STDOUT_FILENO, n);
 }
 
 // Bytes to lend, ample for any list's text.
@@ -46,66 +37,24 @@ fn room_for_texts() -> [u8; 300000]
     [0; 300000]
 }
 
-// Whether the lent rows from a place on are still the 7 that they were.
-fn put_kept_rows(rows: &[u64], from: usize) {
-    let mut i = from;
-    while i < rows.len() {
-        if rows[i] != 7 {
-            put(b"lost\n");
-            return;
-        }
-        i += 1;
-    }
-    put(b"kept\n");
-}
-
-// Whether the lent bytes from a place on are still the dots that they were.
-fn put_kept_bytes(out: &[u8], from: usize) {
-    let mut i = from;
-    while i < out.len() {
-        if out[i] != b'.' {
-            put(b"lost\n");
-            return;
-        }
-        i += 1;
-    }
-    put(b"kept\n");
-}
-
-fn put_rows(rows: &[u64]) {
-    let mut i: usize = 0;
-    while i < rows.len() {
-        put(b" ");
-        put_number(rows[i]);
-        i += 1;
-    }
-}
-
-// Document 01's number of a refusal.
-fn put_refusal(why: Refusal) {
-    put_number(refusals::number(why) as u64);
-}
-
 fn put_refused(why: Refusal, row: usize, out: &[u8]) {
-    put(b"written ");
-    put_refusal(why);
-    put(b" row ");
-    put_number(row as u64);
-    put(b" ");
-    put_kept_bytes(out, 0);
+    trials::put(b"written ");
+    trials::put_refused_row(why, row);
+    trials::put(b" ");
+    trials::put_kept_bytes(out, 0);
 }
 
 // The text's length, and where it is asked for the text and what became of the bytes after it.
 fn put_text(out: &[u8], len: usize, show: bool)
     requires { ⌜ len ≤ length (now out) ⌝ }
 {
-    put(b"written 0 length ");
-    put_number(len as u64);
-    put(b"\n");
+    trials::put(b"written 0 length ");
+    trials::put_number(len);
+    trials::put(b"\n");
     if show {
-        put(&out[..len]);
-        put(b"rest ");
-        put_kept_bytes(out, len);
+        trials::put(&out[..len]);
+        trials::put(b"rest ");
+        trials::put_kept_bytes(out, len);
     }
 }
 
@@ -144,12 +93,12 @@ fn written(rows: &[u64]) {
 fn put_list(lent: &[u64], n: usize)
     requires { ⌜ n ≤ length (now lent) ⌝ }
 {
-    put(b"0 entries ");
-    put_number(n as u64);
-    put(b" rows");
-    put_rows(&lent[..n]);
-    put(b" rest ");
-    put_kept_rows(lent, n);
+    trials::put(b"0 entries ");
+    trials::put_number(n);
+    trials::put(b" rows");
+    trials::put_rows(&lent[..n]);
+    trials::put(b" rest ");
+    trials::put_kept_rows(lent, n);
     written(&lent[..n]);
 }
 
@@ -157,11 +106,11 @@ fn put_list(lent: &[u64], n: usize)
 fn trial(text: &[u8], lent: &mut [u64]) {
     match lists::read_list(text, lent) {
         Reading::Refused(why, line) => {
-            put_refusal(lists::refusal_of(why));
-            put(b" line ");
-            put_number(line as u64);
-            put(b" ");
-            put_kept_rows(lent, 0);
+            trials::put_refusal(lists::refusal_of(why));
+            trials::put(b" line ");
+            trials::put_number(line);
+            trials::put(b" ");
+            trials::put_kept_rows(lent, 0);
         }
         Reading::Read(n) => {
             put_list(lent, n);
@@ -199,12 +148,12 @@ fn texts(file: &[u8]) {
     while at < file.len() {
         match find(file, at) {
             Next::Over => {
-                put(b"over\n");
+                trials::put(b"over\n");
                 return;
             }
             Next::Text(room, start, end) => {
-                put_number(k);
-                put(b" read ");
+                trials::put_word(k);
+                trials::put(b" read ");
                 let mut lent = sevens();
                 trial(&file[start..end], &mut lent[..room]);
                 at = end;

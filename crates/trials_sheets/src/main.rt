@@ -3,7 +3,6 @@
 // them, the sheets of some colour bytes. What this writes is held to the file stdout, which tests/awkward_sheets.py makes from document
 // 01 alone.
 use libc::STDIN_FILENO;
-use libc::STDOUT_FILENO;
 use lines::Alone;
 use lines::Pair;
 ghost use mathlib.Core.Path.{_≡_};
@@ -15,14 +14,6 @@ ghost use Rattle.trials_sheets.specs.Case.{Within};
 enum Next {
     Both(usize, usize, usize, usize),
     Over,
-}
-
-fn put(s: &[u8]) {
-    io::write_all(STDOUT_FILENO, s);
-}
-
-fn put_number(n: usize) {
-    io::print_decimal(STDOUT_FILENO, n as u64);
 }
 
 fn wide(b: u8) -> usize {
@@ -53,11 +44,11 @@ fn room_for_pairs() -> [u8; 400000]
 fn put_colours(colours: &[u8]) {
     let mut i: usize = 0;
     while i < colours.len() {
-        put(b" ");
+        trials::put(b" ");
         if colours[i] == 255 {
-            put(b"-");
+            trials::put(b"-");
         } else {
-            put_number(wide(colours[i]));
+            trials::put_number(wide(colours[i]));
         }
         i += 1;
     }
@@ -77,27 +68,14 @@ fn count_set(colours: &[u8]) -> usize
     i
 }
 
-// Whether the lent bytes from a place on are still the dots that they were.
-fn put_kept(out: &[u8], from: usize) {
-    let mut i = from;
-    while i < out.len() {
-        if out[i] != b'.' {
-            put(b"lost\n");
-            return;
-        }
-        i += 1;
-    }
-    put(b"kept\n");
-}
-
 fn put_written(m: sheet_texts::Numbers) {
-    put(b"written ");
-    put_number(m.number);
-    put(b" index ");
-    put_number(m.index);
-    put(b" length ");
-    put_number(m.length);
-    put(b" rest ");
+    trials::put(b"written ");
+    trials::put_number(m.number);
+    trials::put(b" index ");
+    trials::put_number(m.index);
+    trials::put(b" length ");
+    trials::put_number(m.length);
+    trials::put(b" rest ");
 }
 
 // Writes the sheet of some colour bytes to lent bytes, all dots, and answers its length, or 0.
@@ -106,10 +84,10 @@ fn write(colours: &[u8], out: &mut [u8], show: bool) -> usize {
     let m = sheet_texts::numbers_of(answer);
     put_written(m);
     let len = m.length;
-    put_kept(out, len);
+    trials::put_kept_bytes(out, len);
     if show {
         if len <= out.len() {
-            put(&out[..len]);
+            trials::put(&out[..len]);
         }
     }
     len
@@ -131,23 +109,23 @@ fn written(colours: &[u8]) {
 }
 
 fn put_checked(m: sheets::Numbers) {
-    put(b"number ");
-    put_number(m.number);
-    put(b" line ");
-    put_number(m.line);
-    put(b" text ");
-    put_number(m.text);
-    put(b" groups ");
-    put_number(m.groups);
-    put(b" colours");
+    trials::put(b"number ");
+    trials::put_number(m.number);
+    trials::put(b" line ");
+    trials::put_number(m.line);
+    trials::put(b" text ");
+    trials::put_number(m.text);
+    trials::put(b" groups ");
+    trials::put_number(m.groups);
+    trials::put(b" colours");
 }
 
 fn put_shown(part: &[u8]) {
-    put(b" shown ");
-    put_number(part.len());
-    put(b" [");
-    put(part);
-    put(b"]\n");
+    trials::put(b" shown ");
+    trials::put_number(part.len());
+    trials::put(b" [");
+    trials::put(part);
+    trials::put(b"]\n");
 }
 
 // Checks one pair with the lent colour bytes, all 255; what is accepted is written again.
@@ -213,12 +191,12 @@ fn pairs(file: &[u8]) {
     while at < file.len() {
         match find(file, at) {
             Next::Over => {
-                put(b"over\n");
+                trials::put(b"over\n");
                 return;
             }
             Next::Both(room, start, middle, end) => {
-                io::print_decimal(STDOUT_FILENO, k);
-                put(b" ");
+                trials::put_word(k);
+                trials::put(b" ");
                 let mut lent = unset();
                 trial(&file[start..middle], &file[middle..end], &mut lent[..room]);
                 at = end;

@@ -1,22 +1,20 @@
 // Lent matrices and what `validity` answers: the number of document 01, 0 where the matrix is valid, and the row, 0 where none is named. A line
 // for each. What it writes is held to the file stdout, which follows from document 01.
 use clashes::Verdict;
-use libc::STDOUT_FILENO;
+use refusals::Refusal;
 
-fn say(number: u64, row: usize) {
-    io::print_decimal(STDOUT_FILENO, number);
-    io::write_all(STDOUT_FILENO, b" row ");
-    io::print_decimal(STDOUT_FILENO, row as u64);
-    io::write_all(STDOUT_FILENO, b"\n");
+fn say(why: Refusal, row: usize) {
+    trials::put_refused_row(why, row);
+    trials::put(b"\n");
 }
 
 fn show(rows: &[u64]) {
     match clashes::validity(rows) {
-        Verdict::Valid => say(0, 0),
-        Verdict::Many => say(1, 0),
-        Verdict::Stray(row) => say(2, row),
-        Verdict::Itself(row) => say(3, row),
-        Verdict::OneSided(row) => say(4, row),
+        Verdict::Valid => trials::put(b"0 row 0\n"),
+        Verdict::Many => say(Refusal::Many, 0),
+        Verdict::Stray(row) => say(Refusal::Stray, row),
+        Verdict::Itself(row) => say(Refusal::Itself, row),
+        Verdict::OneSided(row) => say(Refusal::OneSided, row),
     }
 }
 

@@ -1,6 +1,6 @@
 // Both walks of lists from their constructions: a line for each, k, nodes and complete graphs, or the refusal. What it writes is held to the file
 // stdout, which tests/walk_lists.py makes from document 01 alone; the rows below are its too.
-use libc::STDOUT_FILENO;
+use refusals::Refusal;
 use walk::Answer;
 
 // Cycles.
@@ -465,8 +465,13 @@ const ALL: [u64; 64] = [
 ];
 
 fn say(word: &[u8], number: u64) {
-    io::write_all(STDOUT_FILENO, word);
-    io::print_decimal(STDOUT_FILENO, number);
+    trials::put(word);
+    trials::put_word(number);
+}
+
+fn refused(why: Refusal, row: usize) {
+    trials::put(b": refused ");
+    trials::put_refused_row(why, row);
 }
 
 fn tell(a: Answer) {
@@ -476,21 +481,25 @@ fn tell(a: Answer) {
             say(b" nodes ", nodes);
             say(b" leaves ", leaves);
         }
-        Answer::Many => say(b": refused 1 row ", 0),
-        Answer::Stray(row) => say(b": refused 2 row ", row as u64),
-        Answer::Itself(row) => say(b": refused 3 row ", row as u64),
-        Answer::OneSided(row) => say(b": refused 4 row ", row as u64),
-        Answer::Short => say(b": refused 5 row ", 0),
-        Answer::Budget(nodes) => say(b": refused 6 nodes ", nodes),
-        Answer::Deep => say(b": refused 7 row ", 0),
+        Answer::Many => refused(Refusal::Many, 0),
+        Answer::Stray(row) => refused(Refusal::Stray, row),
+        Answer::Itself(row) => refused(Refusal::Itself, row),
+        Answer::OneSided(row) => refused(Refusal::OneSided, row),
+        Answer::Short => refused(Refusal::Short, 0),
+        Answer::Budget(nodes) => {
+            trials::put(b": refused ");
+            trials::put_refusal(Refusal::Budget);
+            say(b" nodes ", nodes);
+        }
+        Answer::Deep => refused(Refusal::Deep, 0),
     }
-    io::write_all(STDOUT_FILENO, b"\n");
+    trials::put(b"\n");
 }
 
 // The bounded walk.
 fn show(name: &[u8], rows: &[u64], budget: u64) {
     let mut colours = [0u8; 64];
-    io::write_all(STDOUT_FILENO, name);
+    trials::put(name);
     tell(walk::fewest(rows, &mut colours, budget));
 }
 
@@ -498,8 +507,8 @@ fn show(name: &[u8], rows: &[u64], budget: u64) {
 fn both(name: &[u8], rows: &[u64]) {
     show(name, rows, 1000000);
     let mut colours = [0u8; 64];
-    io::write_all(STDOUT_FILENO, name);
-    io::write_all(STDOUT_FILENO, b", plain");
+    trials::put(name);
+    trials::put(b", plain");
     tell(walk::plain(rows, &mut colours, 1000000));
 }
 

@@ -83,7 +83,8 @@ module _ (n : ℕ) where
     pub allows-merged : (c : List ℕ) → Allows (merge u v g) c → Allows g c
     allows-merged c a = record {
       together = λ i b. a .together i b ∙ ap (at c) (M .reps i b) ∙ ts (g .rep i);
-      apart = λ x y i j t q. a .apart (to u v x) (to u v y) (to-below n g (merge u v g) u v k p M x i) (to-below n g (merge u v g) u v k p M y j) (M .fwd x y t) (ts x ∙ q ∙ sym (ts y));
+      apart = λ x y i j t q. a .apart (to u v x) (to u v y) (to-below n g (merge u v g) u v k p M x i) (to-below n g (merge u v g) u v k p M y j) (M .fwd x y t)
+          (ts x ∙ q ∙ sym (ts y));
     }
       where
         ts : (w : ℕ) → at c (to u v w) ≡ at c w

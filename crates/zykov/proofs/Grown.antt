@@ -73,7 +73,8 @@ module _ (n : ℕ) where
         ap (λ o. branch g o (grown n (n * n))) e
         ∙ ap₂ (fork g)
         (grown-same (n * n) (suc (n * n)) (merge u v g) (good-merge g u v k c) (omega (arith, merge-fewer g u v k c, missing-le n g)) (omega (arith, missing-le n (merge u v g))))
-        (grown-same (n * n) (suc (n * n)) (separate u v g) (good-separate g u v k c) (omega (arith, separate-fewer g u v k c, missing-le n g)) (omega (arith, missing-le n (separate u v g))))
+        (grown-same (n * n) (suc (n * n)) (separate u v g) (good-separate g u v k c) (omega (arith, separate-fewer g u v k c, missing-le n g))
+        (omega (arith, missing-le n (separate u v g))))
       where
         c : Chosen n g u v
         c = pair-chosen n g u v k e

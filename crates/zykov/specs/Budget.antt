@@ -1,5 +1,5 @@
 -- A walk with a budget stops where it would enter more nodes than that. It is the whole walk where the budget is enough, and refused where it is
--- not: `within-is` of proofs/Budget.antt.
+-- not: `within-is` of proofs/BudgetLaws.antt.
 --
 --   afford m s        : a node is entered, unless m have been entered
 --   within rule m t s : the walk over t from s that enters no more than m nodes in all; none where it would have to

@@ -63,8 +63,7 @@ refused-requires c κs =
     let r = n .before in
     let a = r .before .before in
     let g = a .before .before .before in
-    let e = ap (λ x. x .answer) (sym (g .gather .ensures)) ∙ a .answer2 .given .1 in
-    (
+    let e = ap (λ x. x .answer) (sym (g .gather .ensures)) ∙ a .answer2 .given .1 in (
       omega (arith, n .number .ensures, number-small (r .refusal-of .result)),
       omega (arith, c .line .ensures, line-small (g .before .before .args .text .now) 64 _ _ (r .refusal-of .result) e),
     )

@@ -44,10 +44,13 @@ loop-less : tie.Need-loop-less Inv-loop μ-loop
 loop-less c =
     let a = c .before .before .before .before .before .before .before in
     let b = c .before .before .before .before .before .before .loop in
+    let low = c .before .before .before .before .lowest in
+    let put = c .before .before .with in
+    let met = c .before .meet in
     let q = a .pre .0 in
     turn-less (holding (q .0) (a .args .rows .now) (q .2 .0)) (q .2 .1) (a .args .c) (a .args .left) (record { set = b .set; near = b .near }) (b .rest)
-    (c .before .before .before .before .lowest .result) (c .before .before .with .result) (c .before .meet .result) (c .meet2 .result)
-    (b .inv (q .0) (q .2 .0) (q .2 .1) (a .pre .1) (q .1)) (c .before .before .before .before .lowest .ensures) (c .before .before .with .ensures) (c .before .meet .ensures) (c .meet2 .ensures)
+    (low .result) (put .result) (met .result) (c .meet2 .result)
+    (b .inv (q .0) (q .2 .0) (q .2 .1) (a .pre .1) (q .1)) (low .ensures) (put .ensures) (met .ensures) (c .meet2 .ensures)
 
 loop-again : tie.Need-loop-again Inv-loop μ-loop
 loop-again c =

@@ -37,11 +37,38 @@ less-requires c κs = search needs
 
 returns-2 : tie.Need-returns-2
 returns-2 c =
-    let a = c .before .before .before .before .before .before .before .before .before .args in
-    least-is (a .c) (a .need) (a .among) (c .before .borrowed7 .result) (c .less .result) (c .before .before .before .before .before .before .before .before .before .fits .among .fits) (λ v k.
+    let a = c .before .before .before .before .before .before .before .before .before in
+    let borrowed = c .before .before .before .before .before .before .before .borrowed in
+    let borrowed2 = c .before .before .before .before .before .before .borrowed2 in
+    let borrowed3 = c .before .before .before .before .before .borrowed3 in
+    let borrowed4 = c .before .before .before .before .borrowed4 in
+    let borrowed5 = c .before .before .before .borrowed5 in
+    let borrowed6 = c .before .before .borrowed6 in
+    let borrowed7 = c .before .borrowed7 in
+    least-is (a .args .c) (a .args .need) (a .args .among) (borrowed7 .result) (c .less .result) (a .fits .among .fits) (λ v k.
     let z = ap bit (has-none v) in (
-      omega (arith, z, (c .before .before .before .before .before .before .before .borrowed .ensures v k .0), (c .before .before .before .before .before .before .borrowed2 .ensures v k .0), (c .before .before .before .before .before .borrowed3 .ensures v k .0), (c .before .before .before .before .borrowed4 .ensures v k .0), (c .before .before .before .borrowed5 .ensures v k .0), (c .before .before .borrowed6 .ensures v k .0), (c .before .borrowed7 .ensures v k .0)),
-      omega (arith, z, (c .before .before .before .before .before .before .before .borrowed .ensures v k .1), (c .before .before .before .before .before .before .borrowed2 .ensures v k .1), (c .before .before .before .before .before .borrowed3 .ensures v k .1), (c .before .before .before .before .borrowed4 .ensures v k .1), (c .before .before .before .borrowed5 .ensures v k .1), (c .before .before .borrowed6 .ensures v k .1), (c .before .borrowed7 .ensures v k .1)),
+      omega (
+        arith,
+        z,
+        borrowed .ensures v k .0,
+        borrowed2 .ensures v k .0,
+        borrowed3 .ensures v k .0,
+        borrowed4 .ensures v k .0,
+        borrowed5 .ensures v k .0,
+        borrowed6 .ensures v k .0,
+        borrowed7 .ensures v k .0,
+      ),
+      omega (
+        arith,
+        z,
+        borrowed .ensures v k .1,
+        borrowed2 .ensures v k .1,
+        borrowed3 .ensures v k .1,
+        borrowed4 .ensures v k .1,
+        borrowed5 .ensures v k .1,
+        borrowed6 .ensures v k .1,
+        borrowed7 .ensures v k .1,
+      ),
     )) (c .less .ensures)
 
 pub at-least-spec : {M : Type 1} → statement M

@@ -23,8 +23,10 @@ join-requires c κs = search needs
 returns-2 : tie.Need-returns-2
 returns-2 c =
     let a = c .before .before .before .before in
-    borrow-one (a .args .slice) (a .args .digit) (a .args .b) (c .before .before .below .result) (c .before .less2 .result) (c .join .result) (omega (arith, a .pre, c .before .before .before .if1 .left))
-    (c .before .before .below .ensures) (c .before .less2 .ensures) (c .join .ensures)
+    let below = c .before .before .below in
+    let cut2 = c .before .less2 in
+    borrow-one (a .args .slice) (a .args .digit) (a .args .b) (below .result) (cut2 .result) (c .join .result) (omega (arith, a .pre, c .before .before .before .if1 .left))
+    (below .ensures) (cut2 .ensures) (c .join .ensures)
 
 pub borrowed-spec : {M : Type 1} → statement M
 borrowed-spec =

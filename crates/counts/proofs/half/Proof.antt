@@ -16,7 +16,9 @@ less-requires c κs = search needs
 returns : tie.Need-returns
 returns c =
     let a = c .before .before .before .args in
-    half-is (a .a) (a .b) (c .before .before .meet .result) (c .before .join .result) (c .less .result) (c .before .before .meet .ensures) (c .before .join .ensures) (c .less .ensures)
+    let met = c .before .before .meet in
+    let both = c .before .join in
+    half-is (a .a) (a .b) (met .result) (both .result) (c .less .result) (met .ensures) (both .ensures) (c .less .ensures)
 
 pub half-spec : {M : Type 1} → statement M
 half-spec = tie.close (tie.spec meet-requires join-requires less-requires returns)

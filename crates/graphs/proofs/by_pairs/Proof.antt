@@ -41,7 +41,10 @@ add-common : tie.Need-add-common Inv-loop μ-loop
 add-common c = omega (arith, c .size .ensures, size-le 64 (c .before .meet .result))
 
 loop-less : tie.Need-loop-less Inv-loop μ-loop
-loop-less c = left-falls _ _ _ (c .before .before .before .before .before .before .lowest .ensures) (c .before .before .before .before .before .rest .ensures _ (c .before .before .before .before .before .before .lowest .ensures))
+loop-less c =
+    let low = c .before .before .before .before .before .before .lowest in
+    let gone = c .before .before .before .before .before .rest in
+    left-falls _ _ _ (low .ensures) (gone .ensures _ (low .ensures))
 
 loop-again : tie.Need-loop-again Inv-loop μ-loop
 loop-again c =
@@ -52,11 +55,14 @@ loop-again c =
     let m = c .before .before .before .meet in
     let k = c .before .before .size in
     over-next (lead (shared (a .rows .now) (a .near)) (a .u)) (l .best) _ (l .left) (v .result) (r .result) (v .ensures) (r .ensures (v .result) (v .ensures))
-    (lead-taken (a .rows .now) (a .near) (a .u) (v .result) (m .result) (k .result) (l .best) (m .ensures) (k .ensures) (c .if1 .taken))
+    (lead-taken 64 (a .rows .now) (a .near) (a .u) (v .result) (m .result) (k .result) (l .best) (m .ensures) (k .ensures) (c .if1 .taken))
     ∙ l .inv
 
 loop-less-2 : tie.Need-loop-less-2 Inv-loop μ-loop
-loop-less-2 c = left-falls _ _ _ (c .before .before .before .before .before .before .lowest .ensures) (c .before .before .before .before .before .rest .ensures _ (c .before .before .before .before .before .before .lowest .ensures))
+loop-less-2 c =
+    let low = c .before .before .before .before .before .before .lowest in
+    let gone = c .before .before .before .before .before .rest in
+    left-falls _ _ _ (low .ensures) (gone .ensures _ (low .ensures))
 
 loop-again-2 : tie.Need-loop-again-2 Inv-loop μ-loop
 loop-again-2 c =
@@ -67,13 +73,13 @@ loop-again-2 c =
     let m = c .before .before .before .meet in
     let k = c .before .before .size in
     over-next (lead (shared (a .rows .now) (a .near)) (a .u)) (l .best) _ (l .left) (v .result) (r .result) (v .ensures) (r .ensures (v .result) (v .ensures))
-    (lead-kept (a .rows .now) (a .near) (a .u) (v .result) (m .result) (k .result) (l .best) (m .ensures) (k .ensures) (c .if1 .left))
+    (lead-kept 64 (a .rows .now) (a .near) (a .u) (v .result) (m .result) (k .result) (l .best) (m .ensures) (k .ensures) (c .if1 .left))
     ∙ l .inv
 
 returns : tie.Need-returns Inv-loop μ-loop
 returns c =
     let a = c .before .before .args in
-    sym (over-none (lead (shared (a .rows .now) (a .near)) (a .u)) (c .before .loop .best) (c .before .loop .left) (c .loop-test .left)) ∙ c .before .loop .inv
+    sym (over-none 64 (lead (shared (a .rows .now) (a .near)) (a .u)) (c .before .loop .best) (c .before .loop .left) (c .loop-test .left)) ∙ c .before .loop .inv
 
 pub by-pairs-spec : {M : Type 1} → statement M
 by-pairs-spec =

@@ -11,7 +11,7 @@ use Rattle.graphs.proofs.choose_among.Statement.{statement}
 use Rattle.graphs.proofs.choose_among.Tie as tie
 
 abbrev Inv-loop : tie.InvT-loop
-Inv-loop live rows degrees best₀ left₀ best left = Scanned rows live best left
+Inv-loop live rows degrees best₀ left₀ best left = Scanned 64 rows live best left
 
 abbrev μ-loop : tie.MeasureT-loop
 μ-loop live rows degrees best₀ left₀ best left = size 64 left
@@ -20,7 +20,7 @@ counted-requires : tie.Need-counted-requires Inv-loop μ-loop
 counted-requires c κs = search needs
 
 loop-holds : tie.Need-loop-holds Inv-loop μ-loop
-loop-holds c = scanned-none (c .before .args .rows .now) (c .before .args .live)
+loop-holds c = scanned-none 64 (c .before .args .rows .now) (c .before .args .live)
 
 lowest-requires : tie.Need-lowest-requires Inv-loop μ-loop
 lowest-requires c κs = search needs
@@ -44,32 +44,40 @@ led-requires : tie.Need-led-requires Inv-loop μ-loop
 led-requires c κs =
     let a = c .before .before .before .before .before .before .before .before in
     let l = c .before .before .before .before .before .before .loop in
+    let low = c .before .before .before .before .lowest in
     let w = c .before .before .before .without in
-    row-mutual (holding (a .args .live) (a .args .rows .now) (a .pre .0)) (a .pre .1) (c .before .before .before .before .lowest .result) (w .result) (c .before .meet .result) (c .less .result)
-    (λ x t. l .inv .rest .within x (without-kept (l .left) (c .before .before .before .before .lowest .result) (w .result) x (w .ensures) t .0)) (c .before .meet .ensures) (c .less .ensures)
+    let met = c .before .meet in
+    row-mutual (holding (a .args .live) (a .args .rows .now) (a .pre .0)) (a .pre .1) (low .result) (w .result) (met .result) (c .less .result)
+    (λ x t. l .inv .rest .within x (without-kept (l .left) (low .result) (w .result) x (w .ensures) t .0)) (met .ensures) (c .less .ensures)
 
 hopeful-requires : tie.Need-hopeful-requires Inv-loop μ-loop
 hopeful-requires c κs = search needs
 
 loop-less : tie.Need-loop-less Inv-loop μ-loop
 loop-less c =
+    let l = c .before .before .before .before .before .before .before .before .loop in
+    let low = c .before .before .before .before .before .before .lowest in
     let w = c .before .before .before .before .before .without in
     omega (
       arith,
       count-le (has (c .hopeful .result)) (has (w .result)) (upto 64) (c .hopeful .ensures .within),
-      left-falls (c .before .before .before .before .before .before .before .before .loop .left) (c .before .before .before .before .before .before .lowest .result) (w .result) (c .before .before .before .before .before .before .lowest .ensures) (w .ensures),
+      left-falls (l .left) (low .result) (w .result) (low .ensures) (w .ensures),
     )
 
 loop-again : tie.Need-loop-again Inv-loop μ-loop
 loop-again c =
     let a = c .before .before .before .before .before .before .before .before .before .before in
+    let counted = c .before .before .before .before .before .before .before .before .before .counted in
     let l = c .before .before .before .before .before .before .before .before .loop in
     let u = c .before .before .before .before .before .before .lowest in
     let w = c .before .before .before .before .before .without in
-    scanned-next (a .args .rows .now) (a .args .live) (l .best) (l .left) (u .result) (w .result) (c .before .before .before .meet .result) (c .before .before .less .result) (l .inv) (u .ensures) (w .ensures)
-    (c .before .before .before .meet .ensures) (c .before .before .less .ensures) (c .before .led .result) (c .before .led .ensures) (c .hopeful .result) (c .hopeful .ensures .within)
+    let met = c .before .before .before .meet in
+    let cut = c .before .before .less in
+    let led = c .before .led in
+    scanned-next 64 (a .args .rows .now) (a .args .live) (l .best) (l .left) (u .result) (w .result) (met .result) (cut .result) (l .inv) (u .ensures) (w .ensures)
+    (met .ensures) (cut .ensures) (led .result) (led .ensures) (c .hopeful .result) (c .hopeful .ensures .within)
     (λ v t q.
-    let e = degree-is (holding (a .args .live) (a .args .rows .now) (a .pre .0)) (a .pre .1) (c .before .before .before .before .before .before .before .before .before .counted .result) (c .before .before .before .before .before .before .before .before .before .counted .ensures) v
+    let e = degree-is (holding (a .args .live) (a .args .rows .now) (a .pre .0)) (a .pre .1) (counted .result) (counted .ensures) v
     (l .inv .rest .within v (without-kept (l .left) (u .result) (w .result) v (w .ensures) t .0)) in
     omega (arith, e, c .hopeful .ensures .out v t q))
 
@@ -78,14 +86,16 @@ returns c =
     let a = c .before .before .before .before .before .args in
     let l = c .before .before .before .loop in
     λ m k.
-    leads-none (sharing (a .rows .now) (a .live)) (l .best) _ (scanned-all (holding (a .live) (a .rows .now) m) k (l .best) (l .left) (c .before .before .loop-test .left) (l .inv)) (c .if1 .taken)
+    leads-none (sharing 64 (a .rows .now) (a .live)) (l .best) _
+    (scanned-all (holding (a .live) (a .rows .now) m) k (l .best) (l .left) (c .before .before .loop-test .left) (l .inv)) (c .if1 .taken)
 
 returns-2 : tie.Need-returns-2 Inv-loop μ-loop
 returns-2 c =
     let a = c .before .before .before .before .before .args in
     let l = c .before .before .before .loop in
     λ m k.
-    leads-some (sharing (a .rows .now) (a .live)) (l .best) _ (scanned-all (holding (a .live) (a .rows .now) m) k (l .best) (l .left) (c .before .before .loop-test .left) (l .inv)) (c .if1 .left)
+    leads-some (sharing 64 (a .rows .now) (a .live)) (l .best) _
+    (scanned-all (holding (a .live) (a .rows .now) m) k (l .best) (l .left) (c .before .before .loop-test .left) (l .inv)) (c .if1 .left)
 
 pub choose-among-spec : {M : Type 1} → statement M
 choose-among-spec =

@@ -13,7 +13,7 @@ use Rattle.graphs.proofs.colours.Statement.{statement}
 use Rattle.graphs.proofs.colours.Tie as tie
 
 abbrev Inv-loop : tie.InvT-loop
-Inv-loop h n out₀ next₀ i₀ out next i = (i ≤ n) × Coloured (h .names) out next i
+Inv-loop h n out₀ next₀ i₀ out next i = (i ≤ n) × Coloured 64 (h .names) out next i
 
 abbrev μ-loop : tie.MeasureT-loop
 μ-loop h n out₀ next₀ i₀ out next i = n - i
@@ -56,10 +56,10 @@ loop-again c =
       omega (arith, t),
       ⊎-elim
           (λ w.
-          subst₂ (λ (o : List ℕ) (m : ℕ). Coloured (a .args .t1 .names) o m (l .i + 1)) (sym (w .1)) (sym (w .2))
+          subst₂ (λ (o : List ℕ) (m : ℕ). Coloured 64 (a .args .t1 .names) o m (l .i + 1)) (sym (w .1)) (sym (w .2))
           (coloured-opens (a .args .t1) (a .pre) (l .out) (l .next) (l .i) t (l .inv .1) (w .0 .taken)))
           (λ w.
-          subst₂ (λ (o : List ℕ) (m : ℕ). Coloured (a .args .t1 .names) o m (l .i + 1)) (sym (w .1)) (sym (w .2))
+          subst₂ (λ (o : List ℕ) (m : ℕ). Coloured 64 (a .args .t1 .names) o m (l .i + 1)) (sym (w .1)) (sym (w .2))
           (coloured-joins (a .args .t1) (a .pre) (l .out) (l .next) (l .i) t (l .inv .1) (w .0 .left))) (c .if1 .came),
     )
 

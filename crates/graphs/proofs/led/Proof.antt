@@ -11,7 +11,7 @@ use Rattle.graphs.proofs.led.Tie as tie
 returns : tie.Need-returns
 returns c =
     let a = c .before .args in
-    sym (over-none (lead (shared (a .rows .now) (a .near)) (a .u)) (a .best) (a .apart) (c .if1 .taken))
+    sym (over-none 64 (lead (shared (a .rows .now) (a .near)) (a .u)) (a .best) (a .apart) (c .if1 .taken))
 
 size-requires : tie.Need-size-requires
 size-requires c κs = search needs
@@ -51,19 +51,21 @@ lowest-requires c κs = c .before .before .before .greatest .ensures .some (c .b
 add-t9 : tie.Need-add-t9
 add-t9 c =
     let s = c .before .before .before .before .before .before .before .before .before .before .before in
+    let low = c .before .lowest in
     let a = s .args in
     let k = c .before .before .before .before .before .before .counted in
     let m = c .before .before .before .before .before .greatest in
-    let few = most-few (a .rows .now) (a .near) (a .apart) (a .u) (a .best) (k .result) (m .result) (s .pre) (k .ensures) (m .ensures) (c .before .lowest .result) (c .before .lowest .ensures) in
+    let few = most-few (a .rows .now) (a .near) (a .apart) (a .u) (a .best) (k .result) (m .result) (s .pre) (k .ensures) (m .ensures) (low .result) (low .ensures) in
     omega arith
 
 returns-4 : tie.Need-returns-4
 returns-4 c =
     let s = c .before .before .before .before .before .before .before .before .before .before .before in
+    let low = c .before .lowest in
     let a = s .args in
     let k = c .before .before .before .before .before .before .counted in
     let m = c .before .before .before .before .before .greatest in
-    most-leads (a .rows .now) (a .near) (a .apart) (a .u) (a .best) (k .result) (m .result) (s .pre) (k .ensures) (m .ensures) (c .before .lowest .result) (c .before .lowest .ensures)
+    most-leads (a .rows .now) (a .near) (a .apart) (a .u) (a .best) (k .result) (m .result) (s .pre) (k .ensures) (m .ensures) (low .result) (low .ensures)
     (c .before .before .if3 .left)
 
 pub led-spec : {M : Type 1} → statement M

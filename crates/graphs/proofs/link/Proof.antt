@@ -7,14 +7,16 @@ use lib.Dec.{eqb}
 use lib.ListN.{length, getD}
 use Rattle.sets.specs.Set.{has, size}
 use Rattle.sets.proofs.SetLaws.{has-none}
-use Rattle.graphs.proofs.LoopLaws.{left-falls, or-false}
+use Rattle.graphs.proofs.LoopLaws.{left-falls}
 use Rattle.graphs.proofs.HeldLaws.{link-next}
+use Rattle.sets.proofs.TestLaws.{or-false}
 use borrow.Author.Needs.{needs}
 use Rattle.graphs.proofs.link.Statement.{statement}
 use Rattle.graphs.proofs.link.Tie as tie
 
 abbrev Inv-loop : tie.InvT-loop
-Inv-loop rows₀ u s left₀ rows left = (length rows ≡ length rows₀) × ((x y : ℕ) → (has (getD rows x 0) y || (has left x && eqb u y)) ≡ (has (getD rows₀ x 0) y || (has s x && eqb u y)))
+Inv-loop rows₀ u s left₀ rows left =
+    (length rows ≡ length rows₀) × ((x y : ℕ) → (has (getD rows x 0) y || (has left x && eqb u y)) ≡ (has (getD rows₀ x 0) y || (has s x && eqb u y)))
 
 abbrev μ-loop : tie.MeasureT-loop
 μ-loop rows₀ u s left₀ rows left = size 64 left
@@ -48,11 +50,13 @@ loop-less c = left-falls _ _ _ (c .before .before .before .lowest .ensures) (c .
 
 loop-again : tie.Need-loop-again Inv-loop μ-loop
 loop-again c =
-    let l = c .before .before .before .before .before .loop in (
+    let l = c .before .before .before .before .before .loop in
+    let low = c .before .before .before .lowest in
+    let gone = c .before .before .without in (
       search needs,
       λ x y.
-          link-next (l .rows) (c .before .before .before .before .before .before .args .u) (l .left) (c .before .before .before .lowest .result) (c .before .before .without .result) (c .with .result)
-          (omega (arith, l .inv .0, c .before .before .before .before .before .before .pre .0, c .before .before .before .lowest .ensures .below)) (c .before .before .before .lowest .ensures .member) (c .before .before .without .ensures) (c .with .ensures) x y
+          link-next (l .rows) (c .before .before .before .before .before .before .args .u) (l .left) (low .result) (gone .result) (c .with .result)
+          (omega (arith, l .inv .0, c .before .before .before .before .before .before .pre .0, low .ensures .below)) (low .ensures .member) (gone .ensures) (c .with .ensures) x y
           ∙ l .inv .1 x y,
     )
 

@@ -51,9 +51,12 @@ element-write-rows c = search needs
 returns : tie.Need-returns
 returns c =
     let a = c .before .before .before .before .before .before .before .before .before in
+    let met = c .before .before .before .before .before .before .before .meet in
+    let cut = c .before .before .before .before .before .less in
+    let both = c .before .before .join in
     λ m left names p without renamed.
-    merged-is (holding (a .args .live) (a .args .rows .now) m) _ (a .args .u) (a .args .v) p (c .before .before .before .before .before .before .before .meet .result) (c .before .before .before .before .before .less .result) _ (c .before .before .join .result)
-    refl (c .before .before .before .before .before .before .before .meet .ensures) (c .before .before .before .before .before .less .ensures) (c .link .ensures) (c .before .before .join .ensures) refl renamed without
+    merged-is (holding (a .args .live) (a .args .rows .now) m) _ (a .args .u) (a .args .v) p (met .result) (cut .result) _ (both .result)
+    refl (met .ensures) (cut .ensures) (c .link .ensures) (both .ensures) refl renamed without
 
 pub merge-rows-spec : {M : Type 1} → statement M
 merge-rows-spec =

@@ -20,8 +20,12 @@ abbrev μ-loop : tie.MeasureT-loop
 μ-loop names₀ u v i₀ names i = 64 - i
 
 loop-holds : tie.Need-loop-holds Inv-loop μ-loop
-loop-holds c =
-    (search needs, search needs, λ k. ap (λ (t : Bool). cond t (getD (c .args .names .now) k 0) (to (c .args .u) (c .args .v) (getD (c .args .names .now) k 0))) (le-ltb k 0 (omega arith)))
+loop-holds c = (
+  search needs,
+  search needs,
+  λ k. ap (λ (t : Bool). cond t (getD (c .args .names .now) k 0) (to (c .args .u) (c .args .v) (getD (c .args .names .now) k 0)))
+      (le-ltb k 0 (omega arith)),
+)
 
 element-copy-out-renamed : tie.Need-element-copy-out-renamed Inv-loop μ-loop
 element-copy-out-renamed c = search needs
@@ -44,18 +48,22 @@ loop-again c =
       search needs,
       search needs,
       λ k.
-          each-next (λ j x. to (c .before .before .before .before .args .u) (c .before .before .before .before .args .v) x) (l .names) (l .i) (c .renamed .result) (omega (arith, l .inv .1)) (c .renamed .ensures) k
+          each-next (λ j x. to (c .before .before .before .before .args .u) (c .before .before .before .before .args .v) x) (l .names) (l .i) (c .renamed .result)
+          (omega (arith, l .inv .1)) (c .renamed .ensures) k
           ∙ l .inv .2 k,
     )
 
 returns : tie.Need-returns Inv-loop μ-loop
-returns c = record {
-  long = omega (arith, c .before .loop .inv .1, c .before .before .pre .0);
-  is = λ k.
-      sym (each-done (λ j x. to (c .before .before .args .u) (c .before .before .args .v) x) (c .before .loop .names) (c .before .loop .i)
-      (omega (arith, c .before .loop .inv, c .loop-test .left)) (λ j. to-other (c .before .before .args .u) (c .before .before .args .v) 0 (λ e. absurd (omega (arith, c .before .before .pre)))) k)
-      ∙ c .before .loop .inv .2 k;
-}
+returns c =
+    let l = c .before .loop in
+    record {
+      long = omega (arith, l .inv .1, c .before .before .pre .0);
+      is = λ k.
+          sym (each-done (λ j x. to (c .before .before .args .u) (c .before .before .args .v) x) (l .names) (l .i)
+          (omega (arith, l .inv, c .loop-test .left))
+          (λ j. to-other (c .before .before .args .u) (c .before .before .args .v) 0 (λ e. absurd (omega (arith, c .before .before .pre)))) k)
+          ∙ l .inv .2 k;
+    }
 
 pub rename-spec : {M : Type 1} → statement M
 rename-spec =

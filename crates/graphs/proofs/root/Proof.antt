@@ -66,7 +66,8 @@ returns c =
     let l = c .before .before .loop in
     let rows = c .before .before .before .before .args .rows .now in
     let e : l .i ≡ length rows = omega (arith, l .inv .0, c .before .loop-test .left) in
-    root-is rows _ (c .before .before .before .before .pre) refl (c .below .ensures) (λ k. l .inv .3 k ∙ ap (λ (m : ℕ). cond (ltb k m) (getD rows k 0) 0) e)
+    let s = c .before .before .before .before .pre in
+    root-is 64 rows _ s (s .apart .inside .few) refl (c .below .ensures) (λ k. l .inv .3 k ∙ ap (λ (m : ℕ). cond (ltb k m) (getD rows k 0) 0) e)
     (λ k. l .inv .4 k ∙ ap (λ (m : ℕ). cond (ltb k m) k 0) e) (l .inv .1) (l .inv .2)
 
 pub root-spec : {M : Type 1} → statement M

@@ -39,7 +39,9 @@ last : (t : ℕ) (c : put-number-lts.After-figure (
     (e < length x) × (length (set x e (c .figure .result)) ≡ length (a .out .now)) × Put (a .out .now) (a .at) (numeral (a .n)) (set x e (c .figure .result)) (e + 1)
 last t c =
     let a = c .before .before .before .before .before .before .before .args in
-    put-last (a .out .now) (c .before .before .before .put-number .last .0) (a .at) (c .before .before .before .put-number .result) (c .figure .result) (a .n) (c .before .before .before .before .before .if1 .taken) (c .before .before .before .before .before .before .before .pre .1 .0) (c .before .before .before .before .before .before .before .pre .1 .1) (c .before .before .before .put-number .ensures) (c .figure .ensures)
+    put-last (a .out .now) (c .before .before .before .put-number .last .0) (a .at) (c .before .before .before .put-number .result) (c .figure .result) (a .n)
+    (c .before .before .before .before .before .if1 .taken) (c .before .before .before .before .before .before .before .pre .1 .0)
+    (c .before .before .before .before .before .before .before .pre .1 .1) (c .before .before .before .put-number .ensures) (c .figure .ensures)
 
 only : (t : ℕ) (c : put-number-lts.After-figure2 (
   put-number-below t,
@@ -48,7 +50,8 @@ only : (t : ℕ) (c : put-number-lts.After-figure2 (
   figure-reads.Learnt,
 ) (put-number-at t) put-number.Post) →
     let a = c .before .before .before .args in
-    (a .at < length (a .out .now)) × (length (set (a .out .now) (a .at) (c .figure2 .result)) ≡ length (a .out .now)) × Put (a .out .now) (a .at) (numeral (a .n)) (set (a .out .now) (a .at) (c .figure2 .result)) (a .at + 1)
+    (a .at < length (a .out .now)) × (length (set (a .out .now) (a .at) (c .figure2 .result)) ≡ length (a .out .now))
+    × Put (a .out .now) (a .at) (numeral (a .n)) (set (a .out .now) (a .at) (c .figure2 .result)) (a .at + 1)
 only t c = let a = c .before .before .before .args in put-only (a .out .now) (a .at) (c .figure2 .result) (a .n) (c .before .if1 .left) (c .before .before .before .pre .1 .1) (c .figure2 .ensures)
 
 put-number-put-number-requires : (t : ℕ) → put-number-lts.Need-put-number-requires (

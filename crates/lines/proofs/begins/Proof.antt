@@ -19,7 +19,9 @@ loop-holds : tie.Need-loop-holds Inv-loop μ-loop
 loop-holds c = (omega arith, refl)
 
 returns : tie.Need-returns Inv-loop μ-loop
-returns c = sym (starts-short (c .before .before .before .args .w .now) (c .before .before .before .args .s .now) (c .before .before .loop .i) (c .before .loop-test .taken) (c .if1 .taken)) ∙ c .before .before .loop .inv .1
+returns c =
+    sym (starts-short (c .before .before .before .args .w .now) (c .before .before .before .args .s .now) (c .before .before .loop .i) (c .before .loop-test .taken)
+    (c .if1 .taken)) ∙ c .before .before .loop .inv .1
 
 shared-slice-read-if2 : tie.Need-shared-slice-read-if2 Inv-loop μ-loop
 shared-slice-read-if2 c = search needs
@@ -28,7 +30,10 @@ shared-slice-read-if2-2 : tie.Need-shared-slice-read-if2-2 Inv-loop μ-loop
 shared-slice-read-if2-2 c = search needs
 
 returns-2 : tie.Need-returns-2 Inv-loop μ-loop
-returns-2 c = sym (starts-other (c .before .before .before .before .before .before .args .w .now) (c .before .before .before .before .before .before .args .s .now) (c .before .before .before .before .before .loop .i) (c .before .before .before .before .loop-test .taken) (c .before .before .before .if1 .left) (c .if2 .taken)) ∙ c .before .before .before .before .before .loop .inv .1
+returns-2 c =
+    sym (starts-other (c .before .before .before .before .before .before .args .w .now) (c .before .before .before .before .before .before .args .s .now)
+    (c .before .before .before .before .before .loop .i) (c .before .before .before .before .loop-test .taken) (c .before .before .before .if1 .left) (c .if2 .taken))
+    ∙ c .before .before .before .before .before .loop .inv .1
 
 add-i : tie.Need-add-i Inv-loop μ-loop
 add-i c = search needs
@@ -37,7 +42,12 @@ loop-less : tie.Need-loop-less Inv-loop μ-loop
 loop-less c = search needs
 
 loop-again : tie.Need-loop-again Inv-loop μ-loop
-loop-again c = (omega arith, sym (starts-more (c .before .before .before .before .before .before .args .w .now) (c .before .before .before .before .before .before .args .s .now) (c .before .before .before .before .before .loop .i) (c .before .before .before .before .loop-test .taken) (c .before .before .before .if1 .left) (c .if2 .left)) ∙ c .before .before .before .before .before .loop .inv .1)
+loop-again c = (
+  omega arith,
+  sym (starts-more (c .before .before .before .before .before .before .args .w .now) (c .before .before .before .before .before .before .args .s .now)
+      (c .before .before .before .before .before .loop .i) (c .before .before .before .before .loop-test .taken) (c .before .before .before .if1 .left) (c .if2 .left))
+      ∙ c .before .before .before .before .before .loop .inv .1,
+)
 
 returns-3 : tie.Need-returns-3 Inv-loop μ-loop
 returns-3 c = sym (starts-all (c .before .before .args .w .now) _ (c .before .loop .i) (c .loop-test .left)) ∙ c .before .loop .inv .1

@@ -28,8 +28,12 @@ wide-requires c κs = search needs
 
 returns : tie.Need-returns Inv-loop μ-loop
 returns c =
-    let r = digits-more (c .before .before .before .before .before .before .before .before .args .s .now) (c .before .before .before .before .before .before .loop .i) (c .before .before .before .wide .result) (c .before .before .before .before .before .loop-test .taken) (c .before .before .before .wide .ensures) (c .before .before .if1 .left) (c .before .if2 .left) in
-    sym (number-not (c .before .before .before .before .before .before .before .before .args .s .now) _ refl (proper-long (length (digits (c .before .before .before .before .before .before .before .before .args .s .now))) (getD (c .before .before .before .before .before .before .before .before .args .s .now) 0 0) (omega (arith, ap length r))))
+    let r = digits-more (c .before .before .before .before .before .before .before .before .args .s .now) (c .before .before .before .before .before .before .loop .i)
+    (c .before .before .before .wide .result) (c .before .before .before .before .before .loop-test .taken) (c .before .before .before .wide .ensures)
+    (c .before .before .if1 .left) (c .before .if2 .left) in
+    sym (number-not (c .before .before .before .before .before .before .before .before .args .s .now) _ refl
+    (proper-long (length (digits (c .before .before .before .before .before .before .before .before .args .s .now)))
+    (getD (c .before .before .before .before .before .before .before .before .args .s .now) 0 0) (omega (arith, ap length r))))
 
 mul-v : tie.Need-mul-v Inv-loop μ-loop
 mul-v c = omega (arith, ten-cap (c .before .before .before .before .before .before .loop .i) (c .before .before .before .before .before .before .loop .inv .1))
@@ -45,8 +49,17 @@ loop-less c = search needs
 
 loop-again : tie.Need-loop-again Inv-loop μ-loop
 loop-again c =
-    let r = digits-more (c .before .before .before .before .before .before .before .before .args .s .now) (c .before .before .before .before .before .before .loop .i) (c .before .before .before .wide .result) (c .before .before .before .before .before .loop-test .taken) (c .before .before .before .wide .ensures) (c .before .before .if1 .left) (c .before .if2 .left) in
-    (omega arith, omega arith, omega (arith, ten-more (c .before .before .before .before .before .before .loop .i)), sym (ap (value (c .before .before .before .before .before .before .loop .v)) r) ∙ c .before .before .before .before .before .before .loop .inv .3, omega (arith, ap length r))
+    let r = digits-more (c .before .before .before .before .before .before .before .before .args .s .now) (c .before .before .before .before .before .before .loop .i)
+    (c .before .before .before .wide .result) (c .before .before .before .before .before .loop-test .taken) (c .before .before .before .wide .ensures)
+    (c .before .before .if1 .left) (c .before .if2 .left) in (
+      omega arith,
+      omega arith,
+      omega (arith, ten-more (c .before .before .before .before .before .before .loop .i)),
+      sym
+          (ap (value (c .before .before .before .before .before .before .loop .v)) r)
+          ∙ c .before .before .before .before .before .before .loop .inv .3,
+      omega (arith, ap length r),
+    )
 
 left : (c : tie.Left-loop Inv-loop μ-loop) → (length (digits (c .before .before .before .args .s .now)) ≡ c .before .loop .i) × (value 0 (digits (c .before .before .before .args .s .now)) ≡ c .before .loop .v)
 left c =
@@ -66,13 +79,19 @@ shared-slice-read-if5 : tie.Need-shared-slice-read-if5 Inv-loop μ-loop
 shared-slice-read-if5 c = omega (arith, c .before .before .before .loop .inv .0)
 
 returns-3 : tie.Need-returns-3 Inv-loop μ-loop
-returns-3 c = sym (number-is (c .before .before .before .before .before .before .before .args .s .now) _ _ (left (c .before .before .before .before) .0) (left (c .before .before .before .before) .1) (proper-zero _ _ (c .before .before .before .if4 .left) (c .if6 .taken) (c .before .if5 .taken)))
+returns-3 c =
+    sym (number-is (c .before .before .before .before .before .before .before .args .s .now) _ _ (left (c .before .before .before .before) .0)
+    (left (c .before .before .before .before) .1) (proper-zero _ _ (c .before .before .before .if4 .left) (c .if6 .taken) (c .before .if5 .taken)))
 
 returns-4 : tie.Need-returns-4 Inv-loop μ-loop
-returns-4 c = sym (number-not (c .before .before .before .before .before .before .before .args .s .now) _ (left (c .before .before .before .before) .0) (proper-zeros _ _ (c .before .before .before .before .before .loop .inv .1) (c .if6 .left) (c .before .if5 .taken)))
+returns-4 c =
+    sym (number-not (c .before .before .before .before .before .before .before .args .s .now) _ (left (c .before .before .before .before) .0)
+    (proper-zeros _ _ (c .before .before .before .before .before .loop .inv .1) (c .if6 .left) (c .before .if5 .taken)))
 
 returns-5 : tie.Need-returns-5 Inv-loop μ-loop
-returns-5 c = sym (number-is (c .before .before .before .before .before .before .args .s .now) _ _ (left (c .before .before .before) .0) (left (c .before .before .before) .1) (proper-other _ _ (c .before .before .if4 .left) (c .before .before .before .before .loop .inv .1) (c .if5 .left)))
+returns-5 c =
+    sym (number-is (c .before .before .before .before .before .before .args .s .now) _ _ (left (c .before .before .before) .0) (left (c .before .before .before) .1)
+    (proper-other _ _ (c .before .before .if4 .left) (c .before .before .before .before .loop .inv .1) (c .if5 .left)))
 
 pub number-spec : {M : Type 1} → statement M
 number-spec =

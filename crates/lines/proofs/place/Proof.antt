@@ -19,7 +19,11 @@ loop-holds : tie.Need-loop-holds Inv-loop μ-loop
 loop-holds c = (omega arith, omega arith, refl)
 
 returns : tie.Need-returns Inv-loop μ-loop
-returns c = (c .before .before .loop .inv .2 ∙ place-past (c .before .before .before .before .args .s .now) (c .before .before .loop .i) (c .before .before .before .before .args .k) (c .before .before .loop .inv .0) (omega (arith, c .before .before .loop .inv .2)), c .before .before .loop .inv .1)
+returns c = (
+  c .before .before .loop .inv .2 ∙ place-past (c .before .before .before .before .args .s .now) (c .before .before .loop .i)
+      (c .before .before .before .before .args .k) (c .before .before .loop .inv .0) (omega (arith, c .before .before .loop .inv .2)),
+  c .before .before .loop .inv .1,
+)
 
 next-start-requires : tie.Need-next-start-requires Inv-loop μ-loop
 next-start-requires c κs = search needs
@@ -31,7 +35,13 @@ loop-less : tie.Need-loop-less Inv-loop μ-loop
 loop-less c = search needs
 
 loop-again : tie.Need-loop-again Inv-loop μ-loop
-loop-again c = (omega arith, c .next-start .ensures .1, c .next-start .ensures .0 ∙ ap (nextStart (c .before .before .before .before .before .args .s .now)) (c .before .before .before .loop .inv .2) ∙ sym (place-next (c .before .before .before .before .before .args .s .now) (c .before .before .before .loop .i)))
+loop-again c = (
+  omega arith,
+  c .next-start .ensures .1,
+  c .next-start .ensures .0
+      ∙ ap (nextStart (c .before .before .before .before .before .args .s .now)) (c .before .before .before .loop .inv .2)
+      ∙ sym (place-next (c .before .before .before .before .before .args .s .now) (c .before .before .before .loop .i)),
+)
 
 returns-2 : tie.Need-returns-2 Inv-loop μ-loop
 returns-2 c = (let e : _≡_ {A = ℕ} (c .before .loop .i) (c .before .before .before .args .k) = omega arith in c .before .loop .inv .2 ∙ ap (placeOf (c .before .before .before .args .s .now)) e, c .before .loop .inv .1)

@@ -32,7 +32,11 @@ loop-less : tie.Need-loop-less Inv-loop μ-loop
 loop-less c = search needs
 
 loop-again : tie.Need-loop-again Inv-loop μ-loop
-loop-again c = (omega arith, word-more (c .before .before .before .args .out .now) (c .before .before .before .args .at) (c .before .before .before .args .w .now) (c .before .before .loop .out) (c .before .before .loop .i) (c .before .loop-test .taken) (c .before .before .loop .inv .1))
+loop-again c = (
+  omega arith,
+  word-more (c .before .before .before .args .out .now) (c .before .before .before .args .at) (c .before .before .before .args .w .now)
+      (c .before .before .loop .out) (c .before .before .loop .i) (c .before .loop-test .taken) (c .before .before .loop .inv .1),
+)
 
 add-result : tie.Need-add-result Inv-loop μ-loop
 add-result c = search needs

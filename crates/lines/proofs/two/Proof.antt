@@ -23,7 +23,9 @@ shared-slice-read-if2 : tie.Need-shared-slice-read-if2
 shared-slice-read-if2 c = search needs
 
 returns-2 : tie.Need-returns-2
-returns-2 c = sym (pair-gap (c .before .before .before .before .before .before .before .before .args .s .now) _ _ (sym (c .before .before .before .before .before .before .number .ensures) ∙ c .before .before .before .before .u .given .1) (c .if2 .taken))
+returns-2 c =
+    sym (pair-gap (c .before .before .before .before .before .before .before .before .args .s .now) _ _
+    (sym (c .before .before .before .before .before .before .number .ensures) ∙ c .before .before .before .before .u .given .1) (c .if2 .taken))
 
 add-at : tie.Need-add-at
 add-at c = search needs
@@ -52,12 +54,16 @@ returns-3 c = sym (pair-none (c .before .before .before .before .args .s .now) (
 returns-4 : tie.Need-returns-4
 returns-4 c =
     let s = c .before .before .before .before .before .before .before .before .before .before .before .before .before .args .s .now in
-    sym (pair-is s _ _ _ (sym (c .before .before .before .before .before .before .before .before .before .before .before .number .ensures) ∙ c .before .before .before .before .before .before .before .before .before .u .given .1) (c .before .before .before .before .before .if2 .left) (sym (ap aloneOf (rest s _)) ∙ sym (c .before .before .before .one .ensures) ∙ c .before .v .given .1))
+    sym (pair-is s _ _ _ (sym (c .before .before .before .before .before .before .before .before .before .before .before .number .ensures)
+    ∙ c .before .before .before .before .before .before .before .before .before .u .given .1) (c .before .before .before .before .before .if2 .left) (sym
+    (ap aloneOf (rest s _)) ∙ sym (c .before .before .before .one .ensures) ∙ c .before .v .given .1))
 
 returns-5 : tie.Need-returns-5
 returns-5 c =
     let s = c .before .before .before .before .before .before .before .before .before .before .before .before .args .s .now in
-    sym (pair-is s _ _ _ (sym (c .before .before .before .before .before .before .before .before .before .before .number .ensures) ∙ c .before .before .before .before .before .before .before .before .u .given .1) (c .before .before .before .before .if2 .left) (sym (ap aloneOf (rest s _)) ∙ sym (c .before .before .one .ensures) ∙ c .enum-told2 .given .1))
+    sym (pair-is s _ _ _ (sym (c .before .before .before .before .before .before .before .before .before .before .number .ensures)
+    ∙ c .before .before .before .before .before .before .before .before .u .given .1) (c .before .before .before .before .if2 .left) (sym (ap aloneOf (rest s _))
+    ∙ sym (c .before .before .one .ensures) ∙ c .enum-told2 .given .1))
 
 pub two-spec : {M : Type 1} → statement M
 two-spec =

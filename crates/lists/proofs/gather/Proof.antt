@@ -13,7 +13,9 @@ use Rattle.lists.proofs.gather.Statement.{statement}
 use Rattle.lists.proofs.gather.Tie as tie
 
 abbrev Inv-loop : tie.InvT-loop
-Inv-loop text room rows₀ h₀ at₀ line₀ rows h at line = (at ≤ length text) × (length text ≤ longestText) × (line ≤ at + 1) × (h .count ≤ at) × (h .n ≤ mostEntries) × (length rows ≡ mostEntries) × (readFrom (linesOf (drop at text)) room line h rows ≡ readFrom (linesOf text) room 1 start noRows)
+Inv-loop text room rows₀ h₀ at₀ line₀ rows h at line =
+    (at ≤ length text) × (length text ≤ longestText) × (line ≤ at + 1) × (h .count ≤ at) × (h .n ≤ mostEntries) × (length rows ≡ mostEntries)
+    × (readFrom (linesOf (drop at text)) room line h rows ≡ readFrom (linesOf text) room 1 start noRows)
 
 abbrev μ-loop : tie.MeasureT-loop
 μ-loop text room rows₀ h₀ at₀ line₀ rows h at line = length text - at
@@ -65,7 +67,8 @@ returns-2 : tie.Need-returns-2 Inv-loop μ-loop
 returns-2 c =
     let b = c .before .before .before .before .loop in
     let s = c .before .before .before .before .before .before .before .args .text .now in
-    c .refused2 .ensures ∙ sym (read-halts mostEntries s _ (b .at) _ _ (b .h) (b .rows) (c .before .before .line-end .ensures .0) (c .before .before .before .loop-test .taken) (c .before .if2 .taken)) ∙ b .inv .6 ∙ read-short mostEntries longestText s _ (b .inv .1)
+    c .refused2 .ensures ∙ sym (read-halts mostEntries s _ (b .at) _ _ (b .h) (b .rows) (c .before .before .line-end .ensures .0)
+    (c .before .before .before .loop-test .taken) (c .before .if2 .taken)) ∙ b .inv .6 ∙ read-short mostEntries longestText s _ (b .inv .1)
 
 sub-shape-of : tie.Need-sub-shape-of Inv-loop μ-loop
 sub-shape-of c = search needs
@@ -92,7 +95,9 @@ returns-3 : tie.Need-returns-3 Inv-loop μ-loop
 returns-3 c =
     let b = c .before .before .before .before .before .before .before .before .before .before .loop in
     let s = c .before .before .before .before .before .before .before .before .before .before .before .before .before .args .text .now in
-    c .refused3 .ensures ∙ sym (turn mostEntries s _ (b .at) _ _ (b .h) (b .rows) (c .before .before .before .before .before .before .before .before .line-end .ensures .0) (closed (c .before .before .before .before .before .before .before)) _ (stepped (c .before .before .before .before) ∙ c .before .before .why .given .1)) ∙ b .inv .6 ∙ read-short mostEntries longestText s _ (b .inv .1)
+    c .refused3 .ensures ∙ sym (turn mostEntries s _ (b .at) _ _ (b .h) (b .rows)
+    (c .before .before .before .before .before .before .before .before .line-end .ensures .0) (closed (c .before .before .before .before .before .before .before)) _
+    (stepped (c .before .before .before .before) ∙ c .before .before .why .given .1)) ∙ b .inv .6 ∙ read-short mostEntries longestText s _ (b .inv .1)
 
 enum-known-g : tie.Need-enum-known-g Inv-loop μ-loop
 enum-known-g c = search needs
@@ -103,12 +108,19 @@ enum-known-g-2 c = search needs
 set-bit-requires : tie.Need-set-bit-requires Inv-loop μ-loop
 set-bit-requires c κs =
     let b = c .before .before .before .before .before .before .before .before .before .before .loop in
-    ends-below mostEntries (c .before .before .before .before .before .before .before .before .before .before .before .before .before .args .text .now) _ (b .at) _ (b .line) (b .h) (b .rows) (c .before .before .before .before .before .before .before .before .line-end .ensures .0) (closed (c .before .before .before .before .before .before .before)) (b .inv .5) (b .inv .4) _ _ _ (stepped (c .before .before .before .before) ∙ c .before .before .g2 .given .1)
+    ends-below mostEntries (c .before .before .before .before .before .before .before .before .before .before .before .before .before .args .text .now) _ (b .at) _
+    (b .line) (b .h) (b .rows) (c .before .before .before .before .before .before .before .before .line-end .ensures .0)
+    (closed (c .before .before .before .before .before .before .before)) (b .inv .5) (b .inv .4) _ _ _
+    (stepped (c .before .before .before .before) ∙ c .before .before .g2 .given .1)
 
 set-bit-requires-2 : tie.Need-set-bit-requires-2 Inv-loop μ-loop
 set-bit-requires-2 c κs =
     let b = c .before .before .before .before .before .before .before .before .before .before .before .before .loop in
-    let w = ends-below mostEntries (c .before .before .before .before .before .before .before .before .before .before .before .before .before .before .before .args .text .now) _ (b .at) _ (b .line) (b .h) (b .rows) (c .before .before .before .before .before .before .before .before .before .before .line-end .ensures .0) (closed (c .before .before .before .before .before .before .before .before .before)) (b .inv .5) (b .inv .4) _ _ _ (stepped (c .before .before .before .before .before .before) ∙ c .before .before .before .before .g2 .given .1) in
+    let w = ends-below mostEntries
+    (c .before .before .before .before .before .before .before .before .before .before .before .before .before .before .before .args .text .now) _ (b .at) _ (b .line)
+    (b .h) (b .rows) (c .before .before .before .before .before .before .before .before .before .before .line-end .ensures .0)
+    (closed (c .before .before .before .before .before .before .before .before .before)) (b .inv .5) (b .inv .4) _ _ _
+    (stepped (c .before .before .before .before .before .before) ∙ c .before .before .before .before .g2 .given .1) in
     (w .1, w .0)
 
 add-at : tie.Need-add-at Inv-loop μ-loop

@@ -42,8 +42,13 @@ loop-less c = search needs
 loop-again : tie.Need-loop-again Inv-loop μ-loop
 loop-again c =
     let s = c .before .before .before .before .before .before .before .args .rows .now in
-    let b = c .before .before .before .before .before .loop in
-    (omega arith, omega arith, omega arith, count-row _ (b .edges) (b .bytes) (length s) s (b .i) (c .before .before .before .before .loop-test .taken) (b .inv .3) _ _ (c .before .before .row-extent .ensures .0 .0) (c .before .before .row-extent .ensures .0 .1))
+    let b = c .before .before .before .before .before .loop in (
+      omega arith,
+      omega arith,
+      omega arith,
+      count-row _ (b .edges) (b .bytes) (length s) s (b .i) (c .before .before .before .before .loop-test .taken) (b .inv .3) _ _
+          (c .before .before .row-extent .ensures .0 .0) (c .before .before .row-extent .ensures .0 .1),
+    )
 
 returns : tie.Need-returns Inv-loop μ-loop
 returns c =

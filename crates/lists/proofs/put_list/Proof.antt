@@ -9,16 +9,31 @@ slice-aggregate-put-two : tie.Need-slice-aggregate-put-two
 slice-aggregate-put-two c = search needs
 
 put-two-requires : tie.Need-put-two-requires
-put-two-requires c κs = let a = c .before .before .before .before .args in ((omega arith, omega arith), head-room (a .rows .now) (a .out .now) (a .m) (c .before .before .before .before .pre .0 .1 .0) (c .before .before .before .before .pre .1))
+put-two-requires c κs =
+    let a = c .before .before .before .before .args in (
+      (omega arith, omega arith),
+      head-room (a .rows .now) (a .out .now) (a .m) (c .before .before .before .before .pre .0 .1 .0)
+          (c .before .before .before .before .pre .1),
+    )
 
 put-rows-requires : tie.Need-put-rows-requires
-put-rows-requires c κs = let a = c .before .before .before .before .before .before .before .before .args in (c .before .before .before .before .before .before .before .before .pre .0 .0, rows-room (a .rows .now) (a .out .now) (a .m) (c .before .before .before .before .before .before .before .before .pre .0 .1 .0) (c .before .before .before .before .before .before .before .before .pre .1) _ _ (c .before .before .before .put-two .ensures))
+put-rows-requires c κs =
+    let a = c .before .before .before .before .before .before .before .before .args in (
+      c .before .before .before .before .before .before .before .before .pre .0 .0,
+      rows-room (a .rows .now) (a .out .now) (a .m)
+          (c .before .before .before .before .before .before .before .before .pre .0 .1 .0) (c .before .before .before .before .before .before .before .before .pre .1) _ _
+          (c .before .before .before .put-two .ensures),
+    )
 
 same-length : tie.Need-same-length
 same-length c = search needs
 
 returns : tie.Need-returns
-returns c = let a = c .before .before .before .before .before .before .before .before .before .before .before .args in list-put (a .rows .now) (a .out .now) (a .m) (c .before .before .before .before .before .before .before .before .before .before .before .pre .0 .1 .0) (c .before .before .before .before .before .before .before .before .before .before .before .pre .1) _ _ (c .before .before .before .before .before .before .put-two .ensures) _ _ (c .before .before .put-rows .ensures)
+returns c =
+    let a = c .before .before .before .before .before .before .before .before .before .before .before .args in
+    list-put (a .rows .now) (a .out .now) (a .m) (c .before .before .before .before .before .before .before .before .before .before .before .pre .0 .1 .0)
+    (c .before .before .before .before .before .before .before .before .before .before .before .pre .1) _ _
+    (c .before .before .before .before .before .before .put-two .ensures) _ _ (c .before .before .put-rows .ensures)
 
 pub put-list-spec : {M : Type 1} → statement M
 put-list-spec =

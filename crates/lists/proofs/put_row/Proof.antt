@@ -41,7 +41,9 @@ put-two-requires : tie.Need-put-two-requires Inv-loop μ-loop
 put-two-requires c κs =
     let a = c .before .before .before .before .before .before .before .args in
     let b = c .before .before .before .before .before .loop in
-    let r = left-room _ _ _ (b .out) (b .a) _ (b .inv .2) (twoLine eWord (a .i + 1) (b .j + 1)) _ (edge-line (a .row) (a .i) (b .j) (a .n) (c .before .before .before .before .loop-test .taken) (sym (c .before .before .before .has .ensures) ∙ c .before .before .if1 .taken)) in
+    let r = left-room _ _ _ (b .out) (b .a) _ (b .inv .2) (twoLine eWord (a .i + 1) (b .j + 1)) _
+    (edge-line (a .row) (a .i) (b .j) (a .n) (c .before .before .before .before .loop-test .taken)
+    (sym (c .before .before .before .has .ensures) ∙ c .before .before .if1 .taken)) in
     ((omega arith, omega arith), omega (arith, two-length eWord (a .i + 1) (b .j + 1), two-length eWord (b .j + 1) (a .i + 1)))
 
 add-j-2 : tie.Need-add-j-2 Inv-loop μ-loop
@@ -59,7 +61,8 @@ stepped c =
     let b = c .before .before .before .loop in
     ⊎-elim
     (λ w. rw (w .6, w .7)
-    (left-put _ _ _ (b .out) (b .a) _ (b .inv .2) (twoLine eWord (a .i + 1) (b .j + 1)) _ (edge-line (a .row) (a .i) (b .j) (a .n) (c .before .before .loop-test .taken) (sym (c .before .has .ensures) ∙ w .0 .taken)) _ _ (w .3 .ensures)))
+    (left-put _ _ _ (b .out) (b .a) _ (b .inv .2) (twoLine eWord (a .i + 1) (b .j + 1)) _
+    (edge-line (a .row) (a .i) (b .j) (a .n) (c .before .before .loop-test .taken) (sym (c .before .has .ensures) ∙ w .0 .taken)) _ _ (w .3 .ensures)))
     (λ w. rw (w .1, w .2)
     (left-skip _ _ _ (b .out) (b .a) _ (b .inv .2) _ (no-line (a .row) (a .i) (b .j) (a .n) (c .before .before .loop-test .taken) (sym (c .before .has .ensures) ∙ w .0 .left))))
     (c .if1 .came)

@@ -18,7 +18,12 @@ abbrev μ-loop : tie.MeasureT-loop
 μ-loop out₀ at rows n a₀ i₀ out a i = length rows - i
 
 loop-holds : tie.Need-loop-holds Inv-loop μ-loop
-loop-holds c = let a = c .before .before .args in (omega arith, left-skip _ _ _ (a .out .now) (a .at) _ (left-begin (a .out .now) (a .at) (edgesText (edges (a .rows .now))) (c .before .before .pre .1)) _ (ap edgesText (edges-are (a .rows .now))))
+loop-holds c =
+    let a = c .before .before .args in (
+      omega arith,
+      left-skip _ _ _ (a .out .now) (a .at) _ (left-begin (a .out .now) (a .at) (edgesText (edges (a .rows .now))) (c .before .before .pre .1)) _
+          (ap edgesText (edges-are (a .rows .now))),
+    )
 
 mul-put-row : tie.Need-mul-put-row Inv-loop μ-loop
 mul-put-row c = search needs
@@ -29,8 +34,11 @@ shared-slice-read-put-row c = search needs
 put-row-requires : tie.Need-put-row-requires Inv-loop μ-loop
 put-row-requires c κs =
     let s = c .before .before .before .before .before .before .args .rows .now in
-    let b = c .before .before .before .loop in
-    ((omega arith, omega arith), left-room _ _ _ (b .out) (b .a) _ (b .inv .1) (edgesText (rowEdges (getD s (b .i) 0) (b .i) (b .i + 1) (length s - (b .i + 1)))) _ (row-lines (length s) s (b .i) (c .before .before .loop-test .taken)))
+    let b = c .before .before .before .loop in (
+      (omega arith, omega arith),
+      left-room _ _ _ (b .out) (b .a) _ (b .inv .1) (edgesText (rowEdges (getD s (b .i) 0) (b .i) (b .i + 1) (length s - (b .i + 1)))) _
+          (row-lines (length s) s (b .i) (c .before .before .loop-test .taken)),
+    )
 
 add-i : tie.Need-add-i Inv-loop μ-loop
 add-i c = search needs
@@ -41,8 +49,12 @@ loop-less c = search needs
 loop-again : tie.Need-loop-again Inv-loop μ-loop
 loop-again c =
     let s = c .before .before .before .before .before .before .before .before .before .args .rows .now in
-    let b = c .before .before .before .before .before .before .loop in
-    (omega arith, left-put _ _ _ (b .out) (b .a) _ (b .inv .1) (edgesText (rowEdges (getD s (b .i) 0) (b .i) (b .i + 1) (length s - (b .i + 1)))) (edgesText (edgesFrom (length s) (drop (b .i + 1) s) (b .i + 1))) (row-lines (length s) s (b .i) (c .before .before .before .before .before .loop-test .taken)) _ _ (c .before .before .put-row .ensures))
+    let b = c .before .before .before .before .before .before .loop in (
+      omega arith,
+      left-put _ _ _ (b .out) (b .a) _ (b .inv .1) (edgesText (rowEdges (getD s (b .i) 0) (b .i) (b .i + 1) (length s - (b .i + 1))))
+          (edgesText (edgesFrom (length s) (drop (b .i + 1) s) (b .i + 1))) (row-lines (length s) s (b .i) (c .before .before .before .before .before .loop-test .taken)) _ _
+          (c .before .before .put-row .ensures),
+    )
 
 same-length : tie.Need-same-length Inv-loop μ-loop
 same-length c = c .before .loop .inv .1 .same

@@ -39,7 +39,9 @@ same-length c = search needs
 returns : tie.Need-returns
 returns c =
     let a = c .before .before .before .before .before .before .before .before .before .before .args in
-    stored-promise mostEntries longestText (a .text .now) (a .rows .now) _ (c .before .before .before .before .before .before .before .gather .ensures) _ (counted (c .before .before .before .before .before .before) .0) _ _ (counted (c .before .before .before .before .before .before) .1) (c .before .before .copy-rows .ensures)
+    stored-promise mostEntries longestText (a .text .now) (a .rows .now) _ (c .before .before .before .before .before .before .before .gather .ensures) _
+    (counted (c .before .before .before .before .before .before) .0) _ _ (counted (c .before .before .before .before .before .before) .1)
+    (c .before .before .copy-rows .ensures)
 
 pub read-list-spec : {M : Type 1} → statement M
 read-list-spec =

@@ -57,13 +57,24 @@ loop-less c = search needs
 counted : (c : tie.Joined1 Inv-loop μ-loop) →
     let a = c .before .before .before .before .args in
     let b = c .before .before .before .loop in
-    (c .if1 .edges ≤ b .j + 1) × (c .if1 .bytes ≤ 18 * (b .j + 1)) × Counted (rowEdges (a .row) (a .i) (a .i + 1) (a .n - (a .i + 1))) (c .if1 .edges) (c .if1 .bytes) (rowEdges (a .row) (a .i) (b .j + 1) (a .n - (b .j + 1)))
+    (c .if1 .edges ≤ b .j + 1) × (c .if1 .bytes ≤ 18 * (b .j + 1))
+    × Counted (rowEdges (a .row) (a .i) (a .i + 1) (a .n - (a .i + 1))) (c .if1 .edges) (c .if1 .bytes) (rowEdges (a .row) (a .i) (b .j + 1) (a .n - (b .j + 1)))
 counted c =
     let a = c .before .before .before .before .args in
     let b = c .before .before .before .loop in
     ⊎-elim
-    (λ w. (omega arith, omega arith, count-yes _ (b .edges) (b .bytes) (a .row) (a .i) (b .j) (a .n) (c .before .before .loop-test .taken) (b .inv .4) (sym (c .before .has .ensures) ∙ w .0 .taken) (c .if1 .edges) (c .if1 .bytes) (omega arith) (omega arith)))
-    (λ w. (omega arith, omega arith, count-no _ (b .edges) (b .bytes) (a .row) (a .i) (b .j) (a .n) (c .before .before .loop-test .taken) (b .inv .4) (sym (c .before .has .ensures) ∙ w .0 .left) (c .if1 .edges) (c .if1 .bytes) (omega arith) (omega arith)))
+    (λ w. (
+      omega arith,
+      omega arith,
+      count-yes _ (b .edges) (b .bytes) (a .row) (a .i) (b .j) (a .n) (c .before .before .loop-test .taken) (b .inv .4)
+          (sym (c .before .has .ensures) ∙ w .0 .taken) (c .if1 .edges) (c .if1 .bytes) (omega arith) (omega arith),
+    ))
+    (λ w. (
+      omega arith,
+      omega arith,
+      count-no _ (b .edges) (b .bytes) (a .row) (a .i) (b .j) (a .n) (c .before .before .loop-test .taken) (b .inv .4)
+          (sym (c .before .has .ensures) ∙ w .0 .left) (c .if1 .edges) (c .if1 .bytes) (omega arith) (omega arith),
+    ))
     (c .if1 .came)
 
 loop-again : tie.Need-loop-again Inv-loop μ-loop

@@ -46,13 +46,17 @@ enum-told c = search needs
 returns-2 : tie.Need-returns-2
 returns-2 c =
     let s = c .before .before .before .before .before .before .before .before .before .before .before .before .args .s .now in
-    sym (shape-p s _ (sym (c .before .before .before .before .before .before .before .before .before .begins .ensures) ∙ c .before .before .before .before .before .before .before .before .if1 .left) (sym (c .before .before .before .before .before .before .begins2 .ensures) ∙ c .before .before .before .before .before .if2 .taken)
+    sym (shape-p s _ (sym (c .before .before .before .before .before .before .before .before .before .begins .ensures)
+    ∙ c .before .before .before .before .before .before .before .before .if1 .left) (sym (c .before .before .before .before .before .before .begins2 .ensures)
+    ∙ c .before .before .before .before .before .if2 .taken)
     (sym (ap pairOf (rest s 7)) ∙ sym (c .before .before .before .two .ensures) ∙ c .before .n .given .1))
 
 returns-3 : tie.Need-returns-3
 returns-3 c =
     let s = c .before .before .before .before .before .before .before .before .before .before .before .args .s .now in
-    sym (shape-p s _ (sym (c .before .before .before .before .before .before .before .before .begins .ensures) ∙ c .before .before .before .before .before .before .before .if1 .left) (sym (c .before .before .before .before .before .begins2 .ensures) ∙ c .before .before .before .before .if2 .taken)
+    sym (shape-p s _ (sym (c .before .before .before .before .before .before .before .before .begins .ensures)
+    ∙ c .before .before .before .before .before .before .before .if1 .left) (sym (c .before .before .before .before .before .begins2 .ensures)
+    ∙ c .before .before .before .before .if2 .taken)
     (sym (ap pairOf (rest s 7)) ∙ sym (c .before .before .two .ensures) ∙ c .enum-told .given .1))
 
 slice-aggregate-begins-3 : tie.Need-slice-aggregate-begins-3
@@ -82,13 +86,21 @@ enum-told-2 c = search needs
 returns-4 : tie.Need-returns-4
 returns-4 c =
     let s = c .before .before .before .before .before .before .before .before .before .before .before .before .before .before .before .args .s .now in
-    sym (shape-e s _ (sym (c .before .before .before .before .before .before .before .before .before .before .before .before .begins .ensures) ∙ c .before .before .before .before .before .before .before .before .before .before .before .if1 .left) (sym (c .before .before .before .before .before .before .before .before .before .begins2 .ensures) ∙ c .before .before .before .before .before .before .before .before .if2 .left) (sym (c .before .before .before .before .before .before .begins3 .ensures) ∙ c .before .before .before .before .before .if3 .taken)
+    sym (shape-e s _ (sym (c .before .before .before .before .before .before .before .before .before .before .before .before .begins .ensures)
+    ∙ c .before .before .before .before .before .before .before .before .before .before .before .if1 .left) (sym
+    (c .before .before .before .before .before .before .before .before .before .begins2 .ensures)
+    ∙ c .before .before .before .before .before .before .before .before .if2 .left) (sym (c .before .before .before .before .before .before .begins3 .ensures)
+    ∙ c .before .before .before .before .before .if3 .taken)
     (sym (ap pairOf (rest s 2)) ∙ sym (c .before .before .before .two2 .ensures) ∙ c .before .u .given .1))
 
 returns-5 : tie.Need-returns-5
 returns-5 c =
     let s = c .before .before .before .before .before .before .before .before .before .before .before .before .before .before .args .s .now in
-    sym (shape-e s _ (sym (c .before .before .before .before .before .before .before .before .before .before .before .begins .ensures) ∙ c .before .before .before .before .before .before .before .before .before .before .if1 .left) (sym (c .before .before .before .before .before .before .before .before .begins2 .ensures) ∙ c .before .before .before .before .before .before .before .if2 .left) (sym (c .before .before .before .before .before .begins3 .ensures) ∙ c .before .before .before .before .if3 .taken)
+    sym (shape-e s _ (sym (c .before .before .before .before .before .before .before .before .before .before .before .begins .ensures)
+    ∙ c .before .before .before .before .before .before .before .before .before .before .if1 .left) (sym
+    (c .before .before .before .before .before .before .before .before .begins2 .ensures)
+    ∙ c .before .before .before .before .before .before .before .if2 .left) (sym (c .before .before .before .before .before .begins3 .ensures)
+    ∙ c .before .before .before .before .if3 .taken)
     (sym (ap pairOf (rest s 2)) ∙ sym (c .before .before .two2 .ensures) ∙ c .enum-told2 .given .1))
 
 returns-6 : tie.Need-returns-6

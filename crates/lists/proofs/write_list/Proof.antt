@@ -17,7 +17,9 @@ sound : (c : tie.After-enum-told2) → Sound (c .before .before .before .before 
 sound c = subst (Judged (c .before .before .before .before .before .args .rows .now)) (c .enum-told2 .given .1) (c .before .before .validity .ensures)
 
 -- what was measured is the text's length
-measured : (c : tie.After-struct-known) → c .before .before .number-len .result + c .before .number-len2 .result + 9 + c .before .before .before .list-extent .result .bytes ≡ length (textOf (c .before .before .before .before .before .before .before .before .before .args .rows .now))
+measured : (c : tie.After-struct-known)
+    → c .before .before .number-len .result + c .before .number-len2 .result + 9 + c .before .before .before .list-extent .result .bytes
+    ≡ length (textOf (c .before .before .before .before .before .before .before .before .before .args .rows .now))
 measured c =
     let s = c .before .before .before .before .before .before .before .before .before .args .rows .now in
     let m = ap (λ (x : ℕ). length (numeral x)) (c .before .before .before .list-extent .ensures .0 .0) in
@@ -75,13 +77,34 @@ returns-2 : tie.Need-returns-2
 returns-2 c = record { verdict = Many; judged = subst (Judged (c .before .before .before .before .before .args .rows .now)) (c .enum-told .given .1) (c .before .before .validity .ensures); answer = refl; lent = refl }
 
 returns-3 : tie.Need-returns-3
-returns-3 c = record { verdict = Stray _; judged = subst (Judged (c .before .before .before .before .before .before .args .rows .now)) (c .before .i .given .1) (c .before .before .before .validity .ensures); answer = refl; lent = refl }
+returns-3 c =
+    record {
+      verdict = Stray _;
+      judged = subst (Judged (c .before .before .before .before .before .before .args .rows .now)) (c .before .i .given .1)
+          (c .before .before .before .validity .ensures);
+      answer = refl;
+      lent = refl;
+    }
 
 returns-4 : tie.Need-returns-4
-returns-4 c = record { verdict = Itself _; judged = subst (Judged (c .before .before .before .before .before .before .args .rows .now)) (c .before .i2 .given .1) (c .before .before .before .validity .ensures); answer = refl; lent = refl }
+returns-4 c =
+    record {
+      verdict = Itself _;
+      judged = subst (Judged (c .before .before .before .before .before .before .args .rows .now)) (c .before .i2 .given .1)
+          (c .before .before .before .validity .ensures);
+      answer = refl;
+      lent = refl;
+    }
 
 returns-5 : tie.Need-returns-5
-returns-5 c = record { verdict = OneSided _; judged = subst (Judged (c .before .before .before .before .before .before .args .rows .now)) (c .before .i3 .given .1) (c .before .before .before .validity .ensures); answer = refl; lent = refl }
+returns-5 c =
+    record {
+      verdict = OneSided _;
+      judged = subst (Judged (c .before .before .before .before .before .before .args .rows .now)) (c .before .i3 .given .1)
+          (c .before .before .before .validity .ensures);
+      answer = refl;
+      lent = refl;
+    }
 
 same-length : tie.Need-same-length
 same-length c = search needs
@@ -90,7 +113,8 @@ returns-6 : tie.Need-returns-6
 returns-6 c =
     let a = c .before .before .before .before .before .before .before .before .before .before .before .before .before .before .args in
     let m = measured (c .before .before .before .before .before) in
-    wrote-all (a .rows .now) (a .out .now) (sound (c .before .before .before .before .before .before .before .before .before)) _ _ (omega (arith, c .before .before .before .before .if1 .left)) (c .before .before .put-list .ensures)
+    wrote-all (a .rows .now) (a .out .now) (sound (c .before .before .before .before .before .before .before .before .before)) _ _
+    (omega (arith, c .before .before .before .before .if1 .left)) (c .before .before .put-list .ensures)
 
 pub write-list-spec : {M : Type 1} → statement M
 write-list-spec =

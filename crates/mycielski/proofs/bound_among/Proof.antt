@@ -3,7 +3,7 @@ use mathlib.Core.Path.{_∙_}
 use native.Mathlib.Omega.{arith}
 use Rattle.sets.specs.Set.{has, size}
 use Rattle.graphs.specs.Held.{holding}
-use Rattle.mycielski.specs.Rounds.{whole}
+use Rattle.mycielski.specs.Rounds.{everyEdge}
 use Rattle.mycielski.proofs.ClimbLaws.{reaches-most, reaches-short, clique-live, climb-start, climb-full, climb-none, climb-more}
 use borrow.Author.Needs.{needs}
 use Rattle.mycielski.proofs.bound_among.Statement.{statement}
@@ -22,7 +22,7 @@ returns c =
     let r = c .before .before .clique-among in
     record {
       most = omega (arith, c .before .size .ensures, reaches-most (holding (a .args .live) (a .args .rows .now) m) k (a .args .enough) (r .result) (r .ensures m k));
-      whole = λ l. absurd (let z : ⊥ = omega (arith, c .if1 .taken) in z);
+      exact = λ l. absurd (let z : ⊥ = omega (arith, c .if1 .taken) in z);
     }
 
 size-requires-2 : tie.Need-size-requires-2
@@ -35,9 +35,9 @@ returns-2 c =
     let h = holding (a .args .live) (a .args .rows .now) m in
     let r = c .before .before .before .before .clique-among in
     let is = reaches-short h k (a .args .enough) (r .result) (r .ensures m k) (omega (arith, c .before .before .if1 .left, c .before .before .before .size .ensures)) in
-    let e = climb-full h k (r .result) (whole (has (r .result)) .edge) (size 64 (r .result)) (climb-start h k (r .result) is)
+    let e = climb-full h k (r .result) (everyEdge (has (r .result)) .edge) (size 64 (r .result)) (climb-start h k (r .result) is)
     (omega (arith, c .if2 .taken, c .before .size2 .ensures, c .before .before .before .size .ensures)) in
-    record { most = omega (arith, c .before .before .before .size .ensures, e); whole = λ q. c .before .before .before .size .ensures ∙ e }
+    record { most = omega (arith, c .before .before .before .size .ensures, e); exact = λ q. c .before .before .before .size .ensures ∙ e }
 
 first-witnesses-requires : tie.Need-first-witnesses-requires
 first-witnesses-requires c κs =
@@ -45,18 +45,23 @@ first-witnesses-requires c κs =
     let r = c .before .before .before .before .clique-among in
     let h = holding (a .args .live) (a .args .rows .now) (a .pre .0) in
     clique-live h (a .pre .1) (r .result)
-    (reaches-short h (a .pre .1) (a .args .enough) (r .result) (r .ensures (a .pre .0) (a .pre .1)) (omega (arith, c .before .before .if1 .left, c .before .before .before .size .ensures)))
+    (reaches-short h (a .pre .1) (a .args .enough) (r .result) (r .ensures (a .pre .0) (a .pre .1))
+    (omega (arith, c .before .before .if1 .left, c .before .before .before .size .ensures)))
 
 returns-3 : tie.Need-returns-3
 returns-3 c =
+    let sized = c .before .before .before .before .before .size in
+    let test = c .before .before .before .before .if1 in
+    let firstwitnesses = c .before .first-witnesses in
     λ m k.
     let a = c .before .before .before .before .before .before .before in
     let h = holding (a .args .live) (a .args .rows .now) m in
     let r = c .before .before .before .before .before .before .clique-among in
-    let is = reaches-short h k (a .args .enough) (r .result) (r .ensures m k) (omega (arith, c .before .before .before .before .if1 .left, c .before .before .before .before .before .size .ensures)) in
-    let e = climb-none h k (r .result) (whole (has (r .result)) .edge) (size 64 (r .result)) (climb-start h k (r .result) is)
-    (omega (arith, c .before .before .if2 .left, c .before .before .before .size2 .ensures, c .before .before .before .before .before .size .ensures)) (c .before .first-witnesses .result) (c .before .first-witnesses .ensures m k) (c .if3 .taken) in
-    record { most = omega (arith, c .before .before .before .before .before .size .ensures, e); whole = λ q. c .before .before .before .before .before .size .ensures ∙ e }
+    let is = reaches-short h k (a .args .enough) (r .result) (r .ensures m k) (omega (arith, test .left, sized .ensures)) in
+    let e = climb-none h k (r .result) (everyEdge (has (r .result)) .edge) (size 64 (r .result)) (climb-start h k (r .result) is)
+    (omega (arith, c .before .before .if2 .left, c .before .before .before .size2 .ensures, sized .ensures)) (firstwitnesses .result) (firstwitnesses .ensures m k)
+    (c .if3 .taken) in
+    record { most = omega (arith, sized .ensures, e); exact = λ q. sized .ensures ∙ e }
 
 add-if4 : tie.Need-add-if4
 add-if4 c = search needs
@@ -66,27 +71,34 @@ add-result c = search needs
 
 returns-4 : tie.Need-returns-4
 returns-4 c =
+    let sized = c .before .before .before .before .before .before .size in
+    let test = c .before .before .before .before .before .if1 in
+    let sized2 = c .before .before .before .before .size2 in
+    let firstwitnesses = c .before .before .first-witnesses in
     λ m k.
     let a = c .before .before .before .before .before .before .before .before in
     let h = holding (a .args .live) (a .args .rows .now) m in
     let r = c .before .before .before .before .before .before .before .clique-among in
-    let is = reaches-short h k (a .args .enough) (r .result) (r .ensures m k) (omega (arith, c .before .before .before .before .before .if1 .left, c .before .before .before .before .before .before .size .ensures)) in
-    let e = climb-more h k (r .result) (whole (has (r .result)) .edge) (size 64 (r .result)) (climb-start h k (r .result) is)
-    (omega (arith, c .before .before .before .if2 .left, c .before .before .before .before .size2 .ensures, c .before .before .before .before .before .before .size .ensures)) (c .before .before .first-witnesses .result) (c .before .before .first-witnesses .ensures m k) (c .before .if3 .left) in
-    record { most = omega (arith, c .before .before .before .before .before .before .size .ensures, e); whole = λ q. absurd (let z : ⊥ = omega (arith, c .if4 .taken) in z) }
+    let is = reaches-short h k (a .args .enough) (r .result) (r .ensures m k) (omega (arith, test .left, sized .ensures)) in
+    let e = climb-more h k (r .result) (everyEdge (has (r .result)) .edge) (size 64 (r .result)) (climb-start h k (r .result) is)
+    (omega (arith, c .before .before .before .if2 .left, sized2 .ensures, sized .ensures)) (firstwitnesses .result) (firstwitnesses .ensures m k) (c .before .if3 .left) in
+    record { most = omega (arith, sized .ensures, e); exact = λ q. absurd (let z : ⊥ = omega (arith, c .if4 .taken) in z) }
 
 climb-requires : tie.Need-climb-requires
 climb-requires c κs =
     let a = c .before .before .before .before .before .before .before .before in
-    let r = c .before .before .before .before .before .before .before .clique-among in (
+    let r = c .before .before .before .before .before .before .before .clique-among in
+    let sized = c .before .before .before .before .before .before .size in
+    let test = c .before .before .before .before .before .if1 in
+    let sized2 = c .before .before .before .before .size2 in (
       a .pre,
       (
-        λ m k. reaches-short (holding (a .args .live) (a .args .rows .now) m) k (a .args .enough) (r .result) (r .ensures m k) (omega (arith, c .before .before .before .before .before .if1 .left, c .before .before .before .before .before .before .size .ensures)),
+        λ m k. reaches-short (holding (a .args .live) (a .args .rows .now) m) k (a .args .enough) (r .result) (r .ensures m k) (omega (arith, test .left, sized .ensures)),
         (
           λ m k. c .before .before .first-witnesses .ensures m k,
           (
             c .before .if3 .left,
-            omega (arith, c .before .before .before .if2 .left, c .before .before .before .before .size2 .ensures, c .before .before .before .before .before .before .size .ensures),
+            omega (arith, c .before .before .before .if2 .left, sized2 .ensures, sized .ensures),
           ),
         ),
       ),

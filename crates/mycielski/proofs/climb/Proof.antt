@@ -1,21 +1,15 @@
 -- `mycielski::climb` meets its contract. The loop's invariant: H and the bound so far are those of a round, and the rounds that are left give the
 -- whole's bound. The measure: what the bound lacks of what is enough. Assumes nothing.
-use mathlib.Core.Path.{_≡_, sym, ap, _∙_, subst}
-use mathlib.Core.List.{List}
-use Prim.Native.Nat.{ℕ, suc, _+_, _-_, _<_}
+use mathlib.Core.Path.{_≡_, subst}
+use Prim.Native.Nat.{suc, _+_, _-_}
 use native.Mathlib.Nat.{le-of-eq}
 use native.Mathlib.Numerals.{add-one}
 use native.Mathlib.Omega.{arith}
-use lib.Dec.{T}
-use Rattle.graphs.specs.Held.{view, Held, holding}
+use Rattle.graphs.specs.Held.{Held, holding}
 use Rattle.graphs.specs.declared.Node.{Node}
-use Rattle.sets.specs.Set.{has, size, IsLowest}
-use Rattle.cliques.specs.Clique.{clique}
-use Rattle.cliques.specs.Growth.{IsSetOf}
-use Rattle.mycielski.specs.Rounds.{Part, whole, nearAll, ofW, extend}
-use Rattle.mycielski.specs.Words.{partOf, Inside, Serves, ServesAll}
-use Rattle.mycielski.specs.declared.Sub.{Sub}
-use Rattle.mycielski.proofs.ClimbLaws.{Climb, clique-live, climb-start, climb-inside, climb-le, climb-full, climb-none, climb-more, climb-w, climb-next}
+use Rattle.sets.specs.Set.{size}
+use Rattle.mycielski.specs.Words.{partOf}
+use Rattle.mycielski.proofs.ClimbLaws.{Climb, clique-live, climb-among, climb-le, climb-full, climb-none, climb-more, climb-w, climb-next, first-among, first-fit, first-w, first-next}
 use borrow.Author.Needs.{needs}
 use Rattle.mycielski.proofs.climb.Statement.{statement}
 use Rattle.mycielski.proofs.climb.Tie as tie
@@ -47,30 +41,6 @@ whole-requires c κs = search needs
 lowest-requires : tie.Need-lowest-requires Inv-loop μ-loop
 lowest-requires c κs = c .before .before .before .before .pre .1 .1 .1 .0
 
--- the first round, from the clique
-module _ (live ws : ℕ) (rows : List ℕ) (c : ℕ) (p : Sub) (e : partOf p ≡ whole (has c)) (m : Node) (k : Held (holding live rows m))
-    (q : IsSetOf (clique (holding live rows m .n) (view (holding live rows m))) c) where
-  abbrev h : Node
-  h = holding live rows m
-
-  first : Climb h k (whole (has c)) (size 64 c)
-  first = climb-start h k c q
-
-  first-inside : Inside live p
-  first-inside = climb-inside h k p (size 64 c) (subst (λ H. Climb h k H (size 64 c)) (sym e) first)
-
-  first-fit : (fit : List ℕ) → ServesAll (h .n) (view h) c fit → Serves (h .n) (view h) p fit
-  first-fit fit f v t x =
-      f v (subst T (ap (λ (H : Part). H .vert v) e) t) x ∙ sym (ap (λ (H : Part). nearAll (h .n) (view h) (H .edge v) x) e)
-
-  module _ (l : size 64 c < size 64 live) (s : (x : ℕ) → has ws x ≡ ofW (h .n) (view h) (whole (has c)) x) (w : ℕ) (v : IsLowest 64 ws w) where
-    first-w : T (ofW (h .n) (view h) (partOf p) w)
-    first-w = subst (λ H. T (ofW (h .n) (view h) H w)) (sym e) (climb-w h k c (whole (has c) .edge) (size 64 c) first l ws s w v)
-
-    first-next : (r : Sub) → partOf r ≡ extend (h .n) (view h) (partOf p) w → Climb h k (partOf r) (suc (size 64 c))
-    first-next r f =
-        climb-next h k c (whole (has c) .edge) (size 64 c) first l ws s w v (partOf r) (f ∙ ap (λ (H : Part). extend (h .n) (view h) H w) e)
-
 extended-requires : tie.Need-extended-requires Inv-loop μ-loop
 extended-requires c κs =
     let a = c .before .before .before .before .before .before in
@@ -78,15 +48,15 @@ extended-requires c κs =
     let q = a .pre .0 in (
       q,
       (
-        first-inside (a .args .live) (a .args .ws) (a .args .rows .now) (a .args .c) (p .result) (p .ensures) (q .0) (q .1) (a .pre .1 .0 (q .0) (q .1)),
+        first-among (holding (a .args .live) (a .args .rows .now) (q .0)) (q .1) (a .args .c) (p .result) (p .ensures) (a .pre .1 .0 (q .0) (q .1)),
         (
           c .before .lowest .ensures .below,
           (
             λ m k.
-                first-w (a .args .live) (a .args .ws) (a .args .rows .now) (a .args .c) (p .result) (p .ensures) m k (a .pre .1 .0 m k) (a .pre .1 .1 .1 .1)
+                first-w (holding (a .args .live) (a .args .rows .now) m) k (a .args .c) (p .result) (p .ensures) (a .pre .1 .0 m k) (a .pre .1 .1 .1 .1) (a .args .ws)
                 (a .pre .1 .1 .0 m k) (c .before .lowest .result) (c .before .lowest .ensures),
             λ m k.
-                first-fit (a .args .live) (a .args .ws) (a .args .rows .now) (a .args .c) (p .result) (p .ensures) m k (a .pre .1 .0 m k)
+                first-fit (holding (a .args .live) (a .args .rows .now) m) k (a .args .c) (p .result) (p .ensures) (a .pre .1 .0 m k)
                 (c .before .before .before .first-servings .result) (c .before .before .before .first-servings .ensures m k),
           ),
         ),
@@ -102,7 +72,7 @@ loop-holds c =
     λ m k.
     let e : suc (size 64 (a .args .c)) ≡ b .result + 1 = omega (arith, b .ensures) in
     subst (λ b. Climb (holding (a .args .live) (a .args .rows .now) m) k (partOf (c .extended .result)) b) e
-    (first-next (a .args .live) (a .args .ws) (a .args .rows .now) (a .args .c) (p .result) (p .ensures) m k (a .pre .1 .0 m k) (a .pre .1 .1 .1 .1)
+    (first-next (holding (a .args .live) (a .args .rows .now) m) k (a .args .c) (p .result) (p .ensures) (a .pre .1 .0 m k) (a .pre .1 .1 .1 .1) (a .args .ws)
     (a .pre .1 .1 .0 m k) (w .result) (w .ensures) (c .extended .result) (c .extended .ensures m k))
 
 size-requires-3 : tie.Need-size-requires-3 Inv-loop μ-loop
@@ -111,27 +81,32 @@ size-requires-3 c κs = search needs
 returns : tie.Need-returns Inv-loop μ-loop
 returns c =
     let a = c .before .before .before .before .before .before .before .before .before .before .before in
+    let sized = c .before .before .before .before .before .before .before .before .before .before .size in
     let l = c .before .before .before .loop in
     λ m k.
     let h = holding (a .args .live) (a .args .rows .now) m in
-    let e = climb-full h k (l .p .set) (partOf (l .p) .edge) (l .b) (l .inv m k) (omega (arith, c .if1 .taken, c .before .before .before .before .before .before .before .before .before .before .size .ensures, c .before .size3 .ensures)) in
-    record { most = le-of-eq e; whole = λ q. e }
+    let e = climb-full h k (l .p .set) (partOf (l .p) .edge) (l .b) (l .inv m k) (omega (arith, c .if1 .taken, sized .ensures, c .before .size3 .ensures)) in
+    record { most = le-of-eq e; exact = λ q. e }
 
 witnesses-requires : tie.Need-witnesses-requires Inv-loop μ-loop
 witnesses-requires c κs =
     let a = c .before .before .before .before .before .before .before .before .before .before .before .before .before in
     let l = c .before .before .before .before .before .loop in
-    climb-inside (holding (a .args .live) (a .args .rows .now) (a .pre .0 .0)) (a .pre .0 .1) (l .p) (l .b) (l .inv (a .pre .0 .0) (a .pre .0 .1))
+    climb-among (holding (a .args .live) (a .args .rows .now) (a .pre .0 .0)) (a .pre .0 .1) (l .p) (l .b) (l .inv (a .pre .0 .0) (a .pre .0 .1))
 
 returns-2 : tie.Need-returns-2 Inv-loop μ-loop
 returns-2 c =
     let a = c .before .before .before .before .before .before .before .before .before .before .before .before .before .before .before in
+    let sized = c .before .before .before .before .before .before .before .before .before .before .before .before .before .before .size in
     let l = c .before .before .before .before .before .before .before .loop in
+    let sized3 = c .before .before .before .before .before .size3 in
+    let test = c .before .before .before .before .if1 in
+    let witnesses = c .before .witnesses in
     λ m k.
     let h = holding (a .args .live) (a .args .rows .now) m in
-    let e = climb-none h k (l .p .set) (partOf (l .p) .edge) (l .b) (l .inv m k) (omega (arith, c .before .before .before .before .if1 .left, c .before .before .before .before .before .before .before .before .before .before .before .before .before .before .size .ensures, c .before .before .before .before .before .size3 .ensures))
-    (c .before .witnesses .result) (c .before .witnesses .ensures m k) (c .if2 .taken) in
-    record { most = le-of-eq e; whole = λ q. e }
+    let e = climb-none h k (l .p .set) (partOf (l .p) .edge) (l .b) (l .inv m k) (omega (arith, test .left, sized .ensures, sized3 .ensures))
+    (witnesses .result) (witnesses .ensures m k) (c .if2 .taken) in
+    record { most = le-of-eq e; exact = λ q. e }
 
 add-if3 : tie.Need-add-if3 Inv-loop μ-loop
 add-if3 c = search needs
@@ -142,18 +117,22 @@ add-result c = search needs
 returns-3 : tie.Need-returns-3 Inv-loop μ-loop
 returns-3 c =
     let a = c .before .before .before .before .before .before .before .before .before .before .before .before .before .before .before .before in
+    let sized = c .before .before .before .before .before .before .before .before .before .before .before .before .before .before .before .size in
     let l = c .before .before .before .before .before .before .before .before .loop in
+    let sized3 = c .before .before .before .before .before .before .size3 in
+    let test = c .before .before .before .before .before .if1 in
+    let witnesses = c .before .before .witnesses in
     λ m k.
     let h = holding (a .args .live) (a .args .rows .now) m in
-    let e = climb-more h k (l .p .set) (partOf (l .p) .edge) (l .b) (l .inv m k) (omega (arith, c .before .before .before .before .before .if1 .left, c .before .before .before .before .before .before .before .before .before .before .before .before .before .before .before .size .ensures, c .before .before .before .before .before .before .size3 .ensures))
-    (c .before .before .witnesses .result) (c .before .before .witnesses .ensures m k) (c .before .if2 .left) in
-    record { most = rw (add-one (l .b)) e; whole = λ q. absurd (let z : ⊥ = omega (arith, c .if3 .taken) in z) }
+    let e = climb-more h k (l .p .set) (partOf (l .p) .edge) (l .b) (l .inv m k) (omega (arith, test .left, sized .ensures, sized3 .ensures))
+    (witnesses .result) (witnesses .ensures m k) (c .before .if2 .left) in
+    record { most = rw (add-one (l .b)) e; exact = λ q. absurd (let z : ⊥ = omega (arith, c .if3 .taken) in z) }
 
 servings-requires : tie.Need-servings-requires Inv-loop μ-loop
 servings-requires c κs =
     let a = c .before .before .before .before .before .before .before .before .before .before .before .before .before .before .before .before .before .before in
     let l = c .before .before .before .before .before .before .before .before .before .before .loop in
-    climb-inside (holding (a .args .live) (a .args .rows .now) (a .pre .0 .0)) (a .pre .0 .1) (l .p) (l .b) (l .inv (a .pre .0 .0) (a .pre .0 .1))
+    climb-among (holding (a .args .live) (a .args .rows .now) (a .pre .0 .0)) (a .pre .0 .1) (l .p) (l .b) (l .inv (a .pre .0 .0) (a .pre .0 .1))
 
 lowest-requires-2 : tie.Need-lowest-requires-2 Inv-loop μ-loop
 lowest-requires-2 c κs = c .before .before .before .before .if2 .left
@@ -161,17 +140,22 @@ lowest-requires-2 c κs = c .before .before .before .before .if2 .left
 extended-requires-2 : tie.Need-extended-requires-2 Inv-loop μ-loop
 extended-requires-2 c κs =
     let a = c .before .before .before .before .before .before .before .before .before .before .before .before .before .before .before .before .before .before .before .before .before in
+    let sized = c .before .before .before .before .before .before .before .before .before .before .before .before .before .before .before .before .before .before .before .before .size in
     let l = c .before .before .before .before .before .before .before .before .before .before .before .before .before .loop in
+    let sized3 = c .before .before .before .before .before .before .before .before .before .before .before .size3 in
+    let test = c .before .before .before .before .before .before .before .before .before .before .if1 in
+    let witnesses = c .before .before .before .before .before .before .before .witnesses in
+    let low2 = c .before .lowest2 in
     let q = a .pre .0 in (
       q,
       (
-        climb-inside (holding (a .args .live) (a .args .rows .now) (q .0)) (q .1) (l .p) (l .b) (l .inv (q .0) (q .1)),
+        climb-among (holding (a .args .live) (a .args .rows .now) (q .0)) (q .1) (l .p) (l .b) (l .inv (q .0) (q .1)),
         (
-          c .before .lowest2 .ensures .below,
+          low2 .ensures .below,
           (
             λ m k.
                 climb-w (holding (a .args .live) (a .args .rows .now) m) k (l .p .set) (partOf (l .p) .edge) (l .b) (l .inv m k)
-                (omega (arith, c .before .before .before .before .before .before .before .before .before .before .if1 .left, c .before .before .before .before .before .before .before .before .before .before .before .before .before .before .before .before .before .before .before .before .size .ensures, c .before .before .before .before .before .before .before .before .before .before .before .size3 .ensures)) (c .before .before .before .before .before .before .before .witnesses .result) (c .before .before .before .before .before .before .before .witnesses .ensures m k) (c .before .lowest2 .result) (c .before .lowest2 .ensures),
+                (omega (arith, test .left, sized .ensures, sized3 .ensures)) (witnesses .result) (witnesses .ensures m k) (low2 .result) (low2 .ensures),
             λ m k. c .before .before .servings .ensures m k,
           ),
         ),
@@ -179,7 +163,10 @@ extended-requires-2 c κs =
     )
 
 add-b-2 : tie.Need-add-b-2 Inv-loop μ-loop
-add-b-2 c = omega (arith, c .before .before .before .before .before .before .before .before .before .before .before .before .before .loop-test .taken, c .before .before .before .before .before .before .before .before .before .before .before .before .before .before .before .before .before .before .before .before .before .before .fits .enough .fits)
+add-b-2 c =
+    let a = c .before .before .before .before .before .before .before .before .before .before .before .before .before .before .before .before .before .before .before .before .before .before in
+    let ends = c .before .before .before .before .before .before .before .before .before .before .before .before .before .loop-test in
+    omega (arith, ends .taken, a .fits .enough .fits)
 
 loop-less : tie.Need-loop-less Inv-loop μ-loop
 loop-less c = search needs
@@ -187,11 +174,16 @@ loop-less c = search needs
 loop-again : tie.Need-loop-again Inv-loop μ-loop
 loop-again c =
     let a = c .before .before .before .before .before .before .before .before .before .before .before .before .before .before .before .before .before .before .before .before .before .before in
+    let sized = c .before .before .before .before .before .before .before .before .before .before .before .before .before .before .before .before .before .before .before .before .before .size in
     let l = c .before .before .before .before .before .before .before .before .before .before .before .before .before .before .loop in
+    let sized3 = c .before .before .before .before .before .before .before .before .before .before .before .before .size3 in
+    let test = c .before .before .before .before .before .before .before .before .before .before .before .if1 in
+    let witnesses = c .before .before .before .before .before .before .before .before .witnesses in
+    let low2 = c .before .before .lowest2 in
     λ m k.
     rw (add-one (l .b))
     (climb-next (holding (a .args .live) (a .args .rows .now) m) k (l .p .set) (partOf (l .p) .edge) (l .b) (l .inv m k)
-    (omega (arith, c .before .before .before .before .before .before .before .before .before .before .before .if1 .left, c .before .before .before .before .before .before .before .before .before .before .before .before .before .before .before .before .before .before .before .before .before .size .ensures, c .before .before .before .before .before .before .before .before .before .before .before .before .size3 .ensures)) (c .before .before .before .before .before .before .before .before .witnesses .result) (c .before .before .before .before .before .before .before .before .witnesses .ensures m k) (c .before .before .lowest2 .result) (c .before .before .lowest2 .ensures)
+    (omega (arith, test .left, sized .ensures, sized3 .ensures)) (witnesses .result) (witnesses .ensures m k) (low2 .result) (low2 .ensures)
     (partOf (c .extended2 .result)) (c .extended2 .ensures m k))
 
 returns-4 : tie.Need-returns-4 Inv-loop μ-loop
@@ -201,7 +193,7 @@ returns-4 c =
     λ m k.
     record {
       most = climb-le (holding (a .args .live) (a .args .rows .now) m) k (l .p .set) (partOf (l .p) .edge) (l .b) (l .inv m k);
-      whole = λ q. absurd (let z : ⊥ = omega (arith, c .loop-test .left) in z);
+      exact = λ q. absurd (let z : ⊥ = omega (arith, c .loop-test .left) in z);
     }
 
 pub climb-spec : {M : Type 1} → statement M

@@ -9,7 +9,7 @@ use Rattle.graphs.specs.Held.{view, Held, holding}
 use Rattle.graphs.specs.declared.Node.{Node}
 use Rattle.cliques.specs.Growth.{Within}
 use Rattle.mycielski.specs.Rounds.{ofW}
-use Rattle.mycielski.specs.Words.{partOf, Inside}
+use Rattle.mycielski.specs.Words.{partOf, Among}
 use Rattle.mycielski.proofs.DoneLaws.{within-again}
 use Rattle.mycielski.proofs.RoundLoops.{offered, Extending, extending-start, extending-again, extending-end}
 use borrow.Author.Needs.{needs}
@@ -19,7 +19,7 @@ use Rattle.mycielski.proofs.extended.Tie as tie
 abbrev Inv-loop : tie.InvT-loop
 Inv-loop live rows w fit row old set₀ near₀ left₀ set near left =
     Within left left₀ × (length near ≡ 64)
-    × ((m : Node) → (k : Held (holding live rows m)) → (i : Inside live (record { set = left₀; near = old }))
+    × ((m : Node) → (k : Held (holding live rows m)) → (i : Among live (record { set = left₀; near = old }))
     → (t : T (ofW (m .n) (view (holding live rows m)) (partOf (record { set = left₀; near = old })) w))
     → Extending (holding live rows m) k (record { set = left₀; near = old }) i w t (record { set = set; near = near }) left)
 
@@ -56,10 +56,12 @@ meet-requires c κs = search needs
 lowest-requires-2 : tie.Need-lowest-requires-2 Inv-loop μ-loop
 lowest-requires-2 c κs =
     let a = c .before .before .before .before .before .before .before .before in
+    let l = c .before .before .before .before .loop in
     let v = c .before .before .lowest in
     let q = a .pre .0 in
-    offered (holding (a .args .live) (a .args .rows .now) (q .0)) (q .1) (a .args .p) (a .pre .1 .0) (a .args .w) (a .pre .1 .1 .1 .0 (q .0) (q .1)) (v .result) (getD (a .args .fit .now) (v .result) 0) (c .meet .result)
-    (a .pre .1 .1 .1 .1 (q .0) (q .1) (v .result) (c .before .before .before .before .loop .inv .0 (v .result) (v .ensures .member))) (c .meet .ensures) (c .before .before .before .before .loop .inv .0 (v .result) (v .ensures .member))
+    offered (holding (a .args .live) (a .args .rows .now) (q .0)) (q .1) (a .args .p) (a .pre .1 .0) (a .args .w) (a .pre .1 .1 .1 .0 (q .0) (q .1)) (v .result)
+    (getD (a .args .fit .now) (v .result) 0) (c .meet .result)
+    (a .pre .1 .1 .1 .1 (q .0) (q .1) (v .result) (l .inv .0 (v .result) (v .ensures .member))) (c .meet .ensures) (l .inv .0 (v .result) (v .ensures .member))
 
 with-requires-2 : tie.Need-with-requires-2 Inv-loop μ-loop
 with-requires-2 c κs = search needs
@@ -80,19 +82,28 @@ rest-requires : tie.Need-rest-requires Inv-loop μ-loop
 rest-requires c κs = search needs
 
 loop-less : tie.Need-loop-less Inv-loop μ-loop
-loop-less c = left-falls (c .before .before .before .before .before .before .before .before .before .before .loop .left) (c .before .before .before .before .before .before .before .before .lowest .result) (c .rest .result) (c .before .before .before .before .before .before .before .before .lowest .ensures) (c .rest .ensures (c .before .before .before .before .before .before .before .before .lowest .result) (c .before .before .before .before .before .before .before .before .lowest .ensures))
+loop-less c =
+    let l = c .before .before .before .before .before .before .before .before .before .before .loop in
+    let low = c .before .before .before .before .before .before .before .before .lowest in
+    left-falls (l .left) (low .result) (c .rest .result) (low .ensures) (c .rest .ensures (low .result) (low .ensures))
 
 loop-again : tie.Need-loop-again Inv-loop μ-loop
 loop-again c =
     let a = c .before .before .before .before .before .before .before .before .before .before .before .before .before .before in
     let b = c .before .before .before .before .before .before .before .before .before .before .loop in
-    let v = c .before .before .before .before .before .before .before .before .lowest in (
+    let v = c .before .before .before .before .before .before .before .before .lowest in
+    let met = c .before .before .before .before .before .before .meet in
+    let low2 = c .before .before .before .before .before .lowest2 in
+    let put2 = c .before .before .before .before .with2 in
+    let put3 = c .before .before .before .with3 in
+    let tied = c .before .tie in (
       within-again (a .args .p .set) (b .left) (v .result) (c .rest .result) (b .inv .0) (v .ensures) (c .rest .ensures (v .result) (v .ensures)),
-      c .before .tie .ensures .long ∙ b .inv .1,
+      tied .ensures .long ∙ b .inv .1,
       λ m k i t.
           extending-again (holding (a .args .live) (a .args .rows .now) m) k (a .args .p) i (a .args .w) t (record { set = b .set; near = b .near }) (b .left) (v .result)
-          (getD (a .args .fit .now) (v .result) 0) (c .before .before .before .before .before .before .meet .result) (c .before .before .before .before .before .lowest2 .result) (c .before .before .before .with3 .result) (c .before .before .before .before .with2 .result) _ (c .rest .result)
-          (b .inv .2 m k i t) (v .ensures) (a .pre .1 .1 .1 .1 m k (v .result) (b .inv .0 (v .result) (v .ensures .member))) (c .before .before .before .before .before .before .meet .ensures) (c .before .before .before .before .before .lowest2 .ensures) (c .before .before .before .with3 .ensures) (c .before .before .before .before .with2 .ensures) (c .before .tie .ensures) (c .rest .ensures (v .result) (v .ensures)),
+          (getD (a .args .fit .now) (v .result) 0) (met .result) (low2 .result) (put3 .result) (put2 .result) _ (c .rest .result)
+          (b .inv .2 m k i t) (v .ensures) (a .pre .1 .1 .1 .1 m k (v .result) (b .inv .0 (v .result) (v .ensures .member))) (met .ensures) (low2 .ensures) (put3 .ensures)
+          (put2 .ensures) (tied .ensures) (c .rest .ensures (v .result) (v .ensures)),
     )
 
 returns : tie.Need-returns Inv-loop μ-loop

@@ -9,7 +9,7 @@ use Rattle.graphs.specs.Held.{view, Held, holding}
 use Rattle.graphs.specs.declared.Node.{Node}
 use Rattle.graphs.proofs.LoopLaws.{left-falls}
 use Rattle.cliques.specs.Growth.{Within}
-use Rattle.mycielski.specs.Rounds.{whole, nearAll}
+use Rattle.mycielski.specs.Rounds.{everyEdge, nearAll}
 use Rattle.mycielski.proofs.DoneLaws.{within-again}
 use Rattle.mycielski.proofs.FirstLoops.{first-serving}
 use Rattle.mycielski.proofs.FitLoops.{Fitting, fitting-start, fitting-again, fitting-end}
@@ -20,7 +20,7 @@ use Rattle.mycielski.proofs.first_servings.Tie as tie
 abbrev Inv-loop : tie.InvT-loop
 Inv-loop live rows c lack single fit₀ left₀ fit left =
     Within left c × (length fit ≡ 64)
-    × ((m : Node) → Held (holding live rows m) → Fitting c (λ v. nearAll (m .n) (view (holding live rows m)) (whole (has c) .edge v)) fit left)
+    × ((m : Node) → Held (holding live rows m) → Fitting 64 c (λ v. nearAll (m .n) (view (holding live rows m)) (everyEdge (has c) .edge v)) fit left)
 
 abbrev μ-loop : tie.MeasureT-loop
 μ-loop live rows c lack single fit₀ left₀ fit left = size 64 left
@@ -34,7 +34,7 @@ less-requires c κs = search needs
 loop-holds : tie.Need-loop-holds Inv-loop μ-loop
 loop-holds c =
     let a = c .before .before .args in
-    (λ x t. t, search needs, λ m k. fitting-start (a .c) (λ v. nearAll (m .n) (view (holding (a .live) (a .rows .now) m)) (whole (has (a .c)) .edge v)))
+    (λ x t. t, search needs, λ m k. fitting-start 64 (a .c) (λ v. nearAll (m .n) (view (holding (a .live) (a .rows .now) m)) (everyEdge (has (a .c)) .edge v)))
 
 lowest-requires : tie.Need-lowest-requires Inv-loop μ-loop
 lowest-requires c κs = search needs
@@ -68,17 +68,20 @@ loop-less c =
 loop-again : tie.Need-loop-again Inv-loop μ-loop
 loop-again c =
     let a = c .before .before .before .before .before .before .before .before .before in
+    let l = c .before .before .before .before .before .before .before .before .lacking in
+    let f = c .before .before .before .before .before .before .before .less in
     let b = c .before .before .before .before .before .before .loop in
     let v = c .before .before .before .before .lowest in
-    let l = c .before .before .before .before .before .before .before .before .lacking in
-    let f = c .before .before .before .before .before .before .before .less in (
+    let met = c .before .before .meet in
+    let cut2 = c .before .less2 in (
       within-again (a .args .c) (b .left) (v .result) (c .rest .result) (b .inv .0) (v .ensures) (c .rest .ensures (v .result) (v .ensures)),
       search needs,
       λ m k.
-          fitting-again (a .args .c) (λ v. nearAll (m .n) (view (holding (a .args .live) (a .args .rows .now) m)) (whole (has (a .args .c)) .edge v)) (b .fit) (b .left) (v .result) (c .before .less2 .result) (c .rest .result)
+          fitting-again 64 (a .args .c) (λ v. nearAll (m .n) (view (holding (a .args .live) (a .args .rows .now) m)) (everyEdge (has (a .args .c)) .edge v)) (b .fit) (b .left)
+          (v .result) (cut2 .result) (c .rest .result)
           (b .inv .2 m k) (v .ensures)
-          (first-serving (holding (a .args .live) (a .args .rows .now) m) k (a .args .c) (a .pre) (l .result) (l .ensures) (v .result) (f .result) (c .before .before .meet .result) (c .before .less2 .result)
-          (b .inv .0 (v .result) (v .ensures .member)) (f .ensures) (c .before .before .meet .ensures) (c .before .less2 .ensures))
+          (first-serving (holding (a .args .live) (a .args .rows .now) m) k (a .args .c) (a .pre) (l .result) (l .ensures) (v .result) (f .result) (met .result) (cut2 .result)
+          (b .inv .0 (v .result) (v .ensures .member)) (f .ensures) (met .ensures) (cut2 .ensures))
           (c .rest .ensures (v .result) (v .ensures)),
     )
 
@@ -87,8 +90,8 @@ returns c =
     let a = c .before .before .before .before .args in
     let b = c .before .loop in
     λ m k.
-    let s : ℕ → ℕ → Bool = λ v. nearAll (m .n) (view (holding (a .live) (a .rows .now) m)) (whole (has (a .c)) .edge v) in
-    fitting-end (a .c) s (b .fit) (subst (Fitting (a .c) s (b .fit)) (c .loop-test .left) (b .inv .2 m k))
+    let s : ℕ → ℕ → Bool = λ v. nearAll (m .n) (view (holding (a .live) (a .rows .now) m)) (everyEdge (has (a .c)) .edge v) in
+    fitting-end 64 (a .c) s (b .fit) (subst (Fitting 64 (a .c) s (b .fit)) (c .loop-test .left) (b .inv .2 m k))
 
 pub first-servings-spec : {M : Type 1} → statement M
 first-servings-spec =

@@ -8,13 +8,13 @@ use Rattle.mycielski.proofs.lacking.Statement.{statement}
 use Rattle.mycielski.proofs.lacking.Tie as tie
 
 abbrev Inv-loop : tie.InvT-loop
-Inv-loop live rows c once₀ twice₀ left₀ once twice left = Lacking live rows c once twice left
+Inv-loop live rows c once₀ twice₀ left₀ once twice left = Lacking 64 live rows c once twice left
 
 abbrev μ-loop : tie.MeasureT-loop
 μ-loop live rows c once₀ twice₀ left₀ once twice left = size 64 left
 
 loop-holds : tie.Need-loop-holds Inv-loop μ-loop
-loop-holds c = lacking-start (c .args .live) (c .args .rows .now) (c .args .c)
+loop-holds c = lacking-start 64 (c .args .live) (c .args .rows .now) (c .args .c)
 
 lowest-requires : tie.Need-lowest-requires Inv-loop μ-loop
 lowest-requires c κs = search needs
@@ -41,21 +41,29 @@ rest-requires : tie.Need-rest-requires Inv-loop μ-loop
 rest-requires c κs = search needs
 
 loop-less : tie.Need-loop-less Inv-loop μ-loop
-loop-less c = left-falls (c .before .before .before .before .before .before .before .before .loop .left) (c .before .before .before .before .before .before .lowest .result) (c .rest .result) (c .before .before .before .before .before .before .lowest .ensures) (c .rest .ensures (c .before .before .before .before .before .before .lowest .result) (c .before .before .before .before .before .before .lowest .ensures))
+loop-less c =
+    let l = c .before .before .before .before .before .before .before .before .loop in
+    let low = c .before .before .before .before .before .before .lowest in
+    left-falls (l .left) (low .result) (c .rest .result) (low .ensures) (c .rest .ensures (low .result) (low .ensures))
 
 loop-again : tie.Need-loop-again Inv-loop μ-loop
 loop-again c =
     let a = c .before .before .before .before .before .before .before .before .before .args in
     let b = c .before .before .before .before .before .before .before .before .loop in
-    lacking-again (a .live) (a .rows .now) (a .c) (b .once) (b .twice) (b .left) (c .before .before .before .before .before .before .lowest .result) (c .before .before .before .before .less .result) (c .before .before .before .meet .result) (c .before .before .join .result)
-    (c .before .join2 .result) (c .rest .result) (b .inv) (c .before .before .before .before .before .before .lowest .ensures) (c .before .before .before .before .less .ensures) (c .before .before .before .meet .ensures) (c .before .before .join .ensures) (c .before .join2 .ensures) (c .rest .ensures (c .before .before .before .before .before .before .lowest .result) (c .before .before .before .before .before .before .lowest .ensures))
+    let low = c .before .before .before .before .before .before .lowest in
+    let cut = c .before .before .before .before .less in
+    let met = c .before .before .before .meet in
+    let both = c .before .before .join in
+    let both2 = c .before .join2 in
+    lacking-again 64 (a .live) (a .rows .now) (a .c) (b .once) (b .twice) (b .left) (low .result) (cut .result) (met .result) (both .result)
+    (both2 .result) (c .rest .result) (b .inv) (low .ensures) (cut .ensures) (met .ensures) (both .ensures) (both2 .ensures) (c .rest .ensures (low .result) (low .ensures))
 
 returns : tie.Need-returns Inv-loop μ-loop
 returns c =
     let a = c .before .before .args in
     let b = c .before .loop in
-    lacking-end (a .live) (a .rows .now) (a .c) (b .once) (b .twice)
-    (subst (λ l. Lacking (a .live) (a .rows .now) (a .c) (b .once) (b .twice) l) (c .loop-test .left) (b .inv))
+    lacking-end 64 (a .live) (a .rows .now) (a .c) (b .once) (b .twice)
+    (subst (λ l. Lacking 64 (a .live) (a .rows .now) (a .c) (b .once) (b .twice) l) (c .loop-test .left) (b .inv))
 
 pub lacking-spec : {M : Type 1} → statement M
 lacking-spec =

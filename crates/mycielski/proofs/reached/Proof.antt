@@ -38,16 +38,21 @@ rest-requires : tie.Need-rest-requires Inv-loop μ-loop
 rest-requires c κs = search needs
 
 loop-less : tie.Need-loop-less Inv-loop μ-loop
-loop-less c = left-falls (c .before .before .before .before .before .loop .left) (c .before .before .before .lowest .result) (c .rest .result) (c .before .before .before .lowest .ensures) (c .rest .ensures (c .before .before .before .lowest .result) (c .before .before .before .lowest .ensures))
+loop-less c =
+    let l = c .before .before .before .before .before .loop in
+    let low = c .before .before .before .lowest in
+    left-falls (l .left) (low .result) (c .rest .result) (low .ensures) (c .rest .ensures (low .result) (low .ensures))
 
 loop-again : tie.Need-loop-again Inv-loop μ-loop
 loop-again c =
     let a = c .before .before .before .before .before .before in
-    let b = c .before .before .before .before .before .loop in (
-      within-again (a .args .s) (b .left) (c .before .before .before .lowest .result) (c .rest .result) (b .inv .0) (c .before .before .before .lowest .ensures) (c .rest .ensures (c .before .before .before .lowest .result) (c .before .before .before .lowest .ensures)),
+    let b = c .before .before .before .before .before .loop in
+    let low = c .before .before .before .lowest in
+    let both = c .before .join in (
+      within-again (a .args .s) (b .left) (low .result) (c .rest .result) (b .inv .0) (low .ensures) (c .rest .ensures (low .result) (low .ensures)),
       λ l m k w.
-          reached-again (holding l (a .args .rows .now) m) k (a .args .s) (b .r) (b .left) (c .before .before .before .lowest .result) (c .before .join .result) (c .rest .result) w
-          (b .inv .1 l m k w) (c .before .before .before .lowest .ensures) (c .before .join .ensures) (c .rest .ensures (c .before .before .before .lowest .result) (c .before .before .before .lowest .ensures)),
+          reached-again (holding l (a .args .rows .now) m) k (a .args .s) (b .r) (b .left) (low .result) (both .result) (c .rest .result) w
+          (b .inv .1 l m k w) (low .ensures) (both .ensures) (c .rest .ensures (low .result) (low .ensures)),
     )
 
 returns : tie.Need-returns Inv-loop μ-loop

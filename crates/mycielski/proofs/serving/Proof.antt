@@ -37,16 +37,21 @@ rest-requires : tie.Need-rest-requires Inv-loop μ-loop
 rest-requires c κs = search needs
 
 loop-less : tie.Need-loop-less Inv-loop μ-loop
-loop-less c = left-falls (c .before .before .before .before .before .loop .left) (c .before .before .before .lowest .result) (c .rest .result) (c .before .before .before .lowest .ensures) (c .rest .ensures (c .before .before .before .lowest .result) (c .before .before .before .lowest .ensures))
+loop-less c =
+    let l = c .before .before .before .before .before .loop in
+    let low = c .before .before .before .lowest in
+    left-falls (l .left) (low .result) (c .rest .result) (low .ensures) (c .rest .ensures (low .result) (low .ensures))
 
 loop-again : tie.Need-loop-again Inv-loop μ-loop
 loop-again c =
     let a = c .before .before .before .before .before .before in
-    let b = c .before .before .before .before .before .loop in (
-      within-again (a .args .near) (b .left) (c .before .before .before .lowest .result) (c .rest .result) (b .inv .0) (c .before .before .before .lowest .ensures) (c .rest .ensures (c .before .before .before .lowest .result) (c .before .before .before .lowest .ensures)),
+    let b = c .before .before .before .before .before .loop in
+    let low = c .before .before .before .lowest in
+    let met = c .before .meet in (
+      within-again (a .args .near) (b .left) (low .result) (c .rest .result) (b .inv .0) (low .ensures) (c .rest .ensures (low .result) (low .ensures)),
       λ m k l.
-          serving-again (holding (a .args .live) (a .args .rows .now) m) k (a .args .near) (b .s) (b .left) (c .before .before .before .lowest .result) (c .before .meet .result) (c .rest .result) l
-          (b .inv .1 m k l) (c .before .before .before .lowest .ensures) (c .before .meet .ensures) (c .rest .ensures (c .before .before .before .lowest .result) (c .before .before .before .lowest .ensures)),
+          serving-again (holding (a .args .live) (a .args .rows .now) m) k (a .args .near) (b .s) (b .left) (low .result) (met .result) (c .rest .result) l
+          (b .inv .1 m k l) (low .ensures) (met .ensures) (c .rest .ensures (low .result) (low .ensures)),
     )
 
 returns : tie.Need-returns Inv-loop μ-loop

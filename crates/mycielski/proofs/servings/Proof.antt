@@ -16,13 +16,15 @@ use Rattle.mycielski.proofs.servings.Tie as tie
 abbrev Inv-loop : tie.InvT-loop
 Inv-loop live rows set near fit₀ left₀ fit left =
     (length fit ≡ 64)
-    × ((m : Node) → Held (holding live rows m) → Fitting set (λ v. nearAll (m .n) (view (holding live rows m)) (has (getD near v 0))) fit left)
+    × ((m : Node) → Held (holding live rows m) → Fitting 64 set (λ v. nearAll (m .n) (view (holding live rows m)) (has (getD near v 0))) fit left)
 
 abbrev μ-loop : tie.MeasureT-loop
 μ-loop live rows set near fit₀ left₀ fit left = size 64 left
 
 loop-holds : tie.Need-loop-holds Inv-loop μ-loop
-loop-holds c = (search needs, λ m k. fitting-start (c .args .set) (λ v. nearAll (m .n) (view (holding (c .args .live) (c .args .rows .now) m)) (has (getD (c .args .near .now) v 0))))
+loop-holds c =
+    let a = c .args in
+    (search needs, λ m k. fitting-start 64 (a .set) (λ v. nearAll (m .n) (view (holding (a .live) (a .rows .now) m)) (has (getD (a .near .now) v 0))))
 
 lowest-requires : tie.Need-lowest-requires Inv-loop μ-loop
 lowest-requires c κs = search needs
@@ -54,11 +56,13 @@ loop-again : tie.Need-loop-again Inv-loop μ-loop
 loop-again c =
     let a = c .before .before .before .before .before .before .args in
     let b = c .before .before .before .before .before .loop in
-    let v = c .before .before .before .lowest in (
+    let v = c .before .before .before .lowest in
+    let serving = c .before .serving in (
       search needs,
       λ m k.
-          fitting-again (a .set) (λ v. nearAll (m .n) (view (holding (a .live) (a .rows .now) m)) (has (getD (a .near .now) v 0))) (b .fit) (b .left) (v .result) (c .before .serving .result) (c .rest .result)
-          (b .inv .1 m k) (v .ensures) (c .before .serving .ensures m k) (c .rest .ensures (v .result) (v .ensures)),
+          fitting-again 64 (a .set) (λ v. nearAll (m .n) (view (holding (a .live) (a .rows .now) m)) (has (getD (a .near .now) v 0))) (b .fit) (b .left) (v .result)
+          (serving .result) (c .rest .result)
+          (b .inv .1 m k) (v .ensures) (serving .ensures m k) (c .rest .ensures (v .result) (v .ensures)),
     )
 
 returns : tie.Need-returns Inv-loop μ-loop
@@ -67,7 +71,7 @@ returns c =
     let b = c .before .loop in
     λ m k.
     let s : ℕ → ℕ → Bool = λ v. nearAll (m .n) (view (holding (a .live) (a .rows .now) m)) (has (getD (a .near .now) v 0)) in
-    fitting-end (a .set) s (b .fit) (subst (Fitting (a .set) s (b .fit)) (c .loop-test .left) (b .inv .1 m k))
+    fitting-end 64 (a .set) s (b .fit) (subst (Fitting 64 (a .set) s (b .fit)) (c .loop-test .left) (b .inv .1 m k))
 
 pub servings-spec : {M : Type 1} → statement M
 servings-spec =

@@ -9,7 +9,7 @@ use Rattle.mycielski.proofs.tie.Statement.{statement}
 use Rattle.mycielski.proofs.tie.Tie as tie
 
 abbrev Inv-loop : tie.InvT-loop
-Inv-loop near₀ u ys row left₀ near left = Tying u ys near₀ near left
+Inv-loop near₀ u ys row left₀ near left = Tying 64 u ys near₀ near left
 
 abbrev μ-loop : tie.MeasureT-loop
 μ-loop near₀ u ys row left₀ near left = size 64 left
@@ -32,7 +32,7 @@ element-write-near c = search needs
 loop-holds : tie.Need-loop-holds Inv-loop μ-loop
 loop-holds c =
     let a = c .before .before in
-    tying-start (a .args .u) (a .args .ys) (set (a .args .near .now) (a .args .u) (c .join .result))
+    tying-start 64 (a .args .u) (a .args .ys) (set (a .args .near .now) (a .args .u) (c .join .result))
     (length-set (a .args .near .now) (a .args .u) (c .join .result) ∙ a .pre .0)
 
 lowest-requires : tie.Need-lowest-requires Inv-loop μ-loop
@@ -57,22 +57,28 @@ rest-requires : tie.Need-rest-requires Inv-loop μ-loop
 rest-requires c κs = search needs
 
 loop-less : tie.Need-loop-less Inv-loop μ-loop
-loop-less c = left-falls (c .before .before .before .before .before .loop .left) (c .before .before .before .lowest .result) (c .rest .result) (c .before .before .before .lowest .ensures) (c .rest .ensures (c .before .before .before .lowest .result) (c .before .before .before .lowest .ensures))
+loop-less c =
+    let l = c .before .before .before .before .before .loop in
+    let low = c .before .before .before .lowest in
+    left-falls (l .left) (low .result) (c .rest .result) (low .ensures) (c .rest .ensures (low .result) (low .ensures))
 
 loop-again : tie.Need-loop-again Inv-loop μ-loop
 loop-again c =
     let a = c .before .before .before .before .before .before .before .before in
+    let both = c .before .before .before .before .before .before .join in
     let b = c .before .before .before .before .before .loop in
-    tying-again (a .args .u) (a .args .ys) (set (a .args .near .now) (a .args .u) (c .before .before .before .before .before .before .join .result)) (b .near) (b .left)
-    (c .before .before .before .lowest .result) (c .before .with .result) (c .rest .result) (b .inv) (c .before .before .before .lowest .ensures) (c .before .with .ensures) (c .rest .ensures (c .before .before .before .lowest .result) (c .before .before .before .lowest .ensures))
+    let low = c .before .before .before .lowest in
+    let put = c .before .with in
+    tying-again (a .args .u) (a .args .ys) (set (a .args .near .now) (a .args .u) (both .result)) (b .near) (b .left)
+    (low .result) (put .result) (c .rest .result) (b .inv) (low .ensures) (put .ensures) (c .rest .ensures (low .result) (low .ensures))
 
 returns : tie.Need-returns Inv-loop μ-loop
 returns c =
     let a = c .before .before .before .before in
     let b = c .before .loop in
     let j = c .before .before .join in
-    tying-end (a .args .near .now) (a .args .u) (a .args .ys) (j .result) (b .near) (a .pre .0) (a .pre .1) (j .ensures)
-    (subst (λ l. Tying (a .args .u) (a .args .ys) (set (a .args .near .now) (a .args .u) (j .result)) (b .near) l) (c .loop-test .left) (b .inv))
+    tying-end 64 (a .args .near .now) (a .args .u) (a .args .ys) (j .result) (b .near) (a .pre .0) (a .pre .1) (j .ensures)
+    (subst (λ l. Tying 64 (a .args .u) (a .args .ys) (set (a .args .near .now) (a .args .u) (j .result)) (b .near) l) (c .loop-test .left) (b .inv))
 
 pub tie-spec : {M : Type 1} → statement M
 tie-spec =

@@ -3,18 +3,18 @@ use mathlib.Core.Path.{subst}
 use borrow.Author.Needs.{needs}
 use Rattle.sets.specs.Set.{size}
 use Rattle.graphs.proofs.LoopLaws.{left-falls}
-use Rattle.mycielski.proofs.EdgeLoops.{Whole, whole-start, whole-again, whole-end}
+use Rattle.mycielski.proofs.EdgeLoops.{Joining, joining-start, joining-again, joining-end}
 use Rattle.mycielski.proofs.whole.Statement.{statement}
 use Rattle.mycielski.proofs.whole.Tie as tie
 
 abbrev Inv-loop : tie.InvT-loop
-Inv-loop c near₀ left₀ near left = Whole c near left
+Inv-loop c near₀ left₀ near left = Joining 64 c near left
 
 abbrev μ-loop : tie.MeasureT-loop
 μ-loop c near₀ left₀ near left = size 64 left
 
 loop-holds : tie.Need-loop-holds Inv-loop μ-loop
-loop-holds c = whole-start (c .args .c)
+loop-holds c = joining-start 64 (c .args .c)
 
 lowest-requires : tie.Need-lowest-requires Inv-loop μ-loop
 lowest-requires c κs = search needs
@@ -34,18 +34,19 @@ rest-requires c κs = search needs
 loop-less : tie.Need-loop-less Inv-loop μ-loop
 loop-less c =
     let b = c .before .before .before .before in
-    left-falls (b .loop .left) (c .before .before .lowest .result) (c .rest .result) (c .before .before .lowest .ensures) (c .rest .ensures (c .before .before .lowest .result) (c .before .before .lowest .ensures))
+    let low = c .before .before .lowest in
+    left-falls (b .loop .left) (low .result) (c .rest .result) (low .ensures) (c .rest .ensures (low .result) (low .ensures))
 
 loop-again : tie.Need-loop-again Inv-loop μ-loop
 loop-again c =
     let b = c .before .before .before .before in
-    whole-again (b .before .args .c) (b .loop .near) (b .loop .left) (c .before .before .lowest .result) (c .before .without .result) (c .rest .result)
+    joining-again (b .before .args .c) (b .loop .near) (b .loop .left) (c .before .before .lowest .result) (c .before .without .result) (c .rest .result)
     (b .loop .inv) (c .before .before .lowest .ensures) (c .before .without .ensures) (c .rest .ensures (c .before .before .lowest .result) (c .before .before .lowest .ensures))
 
 returns : tie.Need-returns Inv-loop μ-loop
 returns c =
     let a = c .before .before in
-    whole-end (a .args .c) (c .before .loop .near) (subst (λ l. Whole (a .args .c) (c .before .loop .near) l) (c .loop-test .left) (c .before .loop .inv))
+    joining-end (a .args .c) (c .before .loop .near) (subst (λ l. Joining 64 (a .args .c) (c .before .loop .near) l) (c .loop-test .left) (c .before .loop .inv))
 
 pub whole-spec : {M : Type 1} → statement M
 whole-spec =

@@ -51,6 +51,8 @@ returns : tie.Need-returns Inv-loop μ-loop
 returns c =
     let a = c .before .before .before .before .before .before .before .before in
     let b = c .before .before .before .before .before .before .before .loop in
+    let reached = c .before .before .reached in
+    let met = c .before .meet in
     λ m k.
     let h = holding (a .args .live) (a .args .rows .now) m in
     let v = c .before .before .before .before .before .lowest in
@@ -61,29 +63,34 @@ returns c =
     (live-among h k (a .args .set) (λ x y. has (getD (a .args .near .now) x 0) y) i) out
     (subst (λ w. Witness h k (a .args .set) (λ x y. has (getD (a .args .near .now) x 0) y) i (a .args .live) w out) (c .if1 .taken)
     (witness-more h k (a .args .set) (λ x y. has (getD (a .args .near .now) x 0) y) i (a .args .live) (λ x t. t) (b .ws) (b .left) (v .result) (s .result)
-    (c .before .before .reached .result) (c .before .meet .result) out (b .inv .1 m k i) (v .ensures) (s .ensures m k)
-    (c .before .before .reached .ensures (a .args .live) (serving-live h k (a .args .set) (λ x y. has (getD (a .args .near .now) x 0) y) i (v .result) (s .result) (s .ensures m k)) m k)
-    (c .before .meet .ensures) (without-is (b .left) (v .result))))
+    (reached .result) (met .result) out (b .inv .1 m k i) (v .ensures) (s .ensures m k)
+    (reached .ensures (a .args .live) (serving-live h k (a .args .set) (λ x y. has (getD (a .args .near .now) x 0) y) i (v .result) (s .result) (s .ensures m k)) m k)
+    (met .ensures) (without-is (b .left) (v .result))))
 
 rest-requires : tie.Need-rest-requires Inv-loop μ-loop
 rest-requires c κs = search needs
 
 loop-less : tie.Need-loop-less Inv-loop μ-loop
-loop-less c = left-falls (c .before .before .before .before .before .before .before .before .loop .left) (c .before .before .before .before .before .before .lowest .result) (c .rest .result) (c .before .before .before .before .before .before .lowest .ensures) (c .rest .ensures (c .before .before .before .before .before .before .lowest .result) (c .before .before .before .before .before .before .lowest .ensures))
+loop-less c =
+    let l = c .before .before .before .before .before .before .before .before .loop in
+    let low = c .before .before .before .before .before .before .lowest in
+    left-falls (l .left) (low .result) (c .rest .result) (low .ensures) (c .rest .ensures (low .result) (low .ensures))
 
 loop-again : tie.Need-loop-again Inv-loop μ-loop
 loop-again c =
     let a = c .before .before .before .before .before .before .before .before .before in
     let b = c .before .before .before .before .before .before .before .before .loop in
     let v = c .before .before .before .before .before .before .lowest in
-    let s = c .before .before .before .before .serving in (
+    let s = c .before .before .before .before .serving in
+    let reached = c .before .before .before .reached in
+    let met = c .before .before .meet in (
       within-again (a .args .set) (b .left) (v .result) (c .rest .result) (b .inv .0) (v .ensures) (c .rest .ensures (v .result) (v .ensures)),
       λ m k i.
           let h = holding (a .args .live) (a .args .rows .now) m in
           witness-more h k (a .args .set) (λ x y. has (getD (a .args .near .now) x 0) y) i (a .args .live) (λ x t. t) (b .ws) (b .left) (v .result) (s .result)
-          (c .before .before .before .reached .result) (c .before .before .meet .result) (c .rest .result) (b .inv .1 m k i) (v .ensures) (s .ensures m k)
-          (c .before .before .before .reached .ensures (a .args .live) (serving-live h k (a .args .set) (λ x y. has (getD (a .args .near .now) x 0) y) i (v .result) (s .result) (s .ensures m k)) m k)
-          (c .before .before .meet .ensures) (c .rest .ensures (v .result) (v .ensures)),
+          (reached .result) (met .result) (c .rest .result) (b .inv .1 m k i) (v .ensures) (s .ensures m k)
+          (reached .ensures (a .args .live) (serving-live h k (a .args .set) (λ x y. has (getD (a .args .near .now) x 0) y) i (v .result) (s .result) (s .ensures m k)) m k)
+          (met .ensures) (c .rest .ensures (v .result) (v .ensures)),
     )
 
 returns-2 : tie.Need-returns-2 Inv-loop μ-loop

@@ -25,7 +25,13 @@ put-sheet-requires : tie.Need-put-sheet-requires
 put-sheet-requires c κs = let f = fits (c .before .before) in (c .before .before .pre .0, c .before .before .pre .2, omega (arith, c .before .before .pre .2), omega (arith, f .1))
 
 returns : tie.Need-returns
-returns c = let f = fits (c .before .before .before .before) in (omega (arith, f .1, c .before .put-sheet .ensures .0), omega (arith, c .before .put-sheet .ensures .0), composed _ (sheetText (c .before .before .before .before .args .colours .now)) _ _ (c .before .put-sheet .ensures))
+returns c =
+    let f = fits (c .before .before .before .before) in (
+      omega (arith, f .1, c .before .put-sheet .ensures .0),
+      omega (arith, c .before .put-sheet .ensures .0),
+      composed _
+          (sheetText (c .before .before .before .before .args .colours .now)) _ _ (c .before .put-sheet .ensures),
+    )
 
 pub compose-spec : {M : Type 1} → statement M
 compose-spec = tie.close (tie.spec slice-aggregate-put-sheet put-sheet-requires returns)

@@ -40,7 +40,10 @@ wide-requires : tie.Need-wide-requires Inv-loop μ-loop
 wide-requires c κs = search needs
 
 returns : tie.Need-returns Inv-loop μ-loop
-returns c = sym (number-wrong (c .before .before .before .before .before .before .args .colours .now) (c .before .before .before .before .loop .used) (c .before .before .before .before .loop .i) _ (c .before .before .before .loop-test .taken) (c .before .wide .ensures) (c .if1 .taken)) ∙ c .before .before .before .before .loop .inv .2
+returns c =
+    sym (number-wrong (c .before .before .before .before .before .before .args .colours .now) (c .before .before .before .before .loop .used)
+    (c .before .before .before .before .loop .i) _ (c .before .before .before .loop-test .taken) (c .before .wide .ensures) (c .if1 .taken))
+    ∙ c .before .before .before .before .loop .inv .2
 
 add-used : tie.Need-add-used Inv-loop μ-loop
 add-used c = search needs

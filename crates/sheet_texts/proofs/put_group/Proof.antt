@@ -24,16 +24,36 @@ slice-aggregate-put-one : tie.Need-slice-aggregate-put-one
 slice-aggregate-put-one c = search needs
 
 put-one-requires : tie.Need-put-one-requires
-put-one-requires c κs = let a = c .before .before .before .before .before .args in (omega (arith, c .before .before .size-of .ensures .1), rw (c .before .before .size-of .ensures .0) (head-room (a .out .now) (a .at) (oneLine sizeWord (length (membersOf (a .colours .now) 0 (a .g)))) (memberLines (membersOf (a .colours .now) 0 (a .g))) (c .before .before .before .before .before .pre .1)))
+put-one-requires c κs =
+    let a = c .before .before .before .before .before .args in (
+      omega (arith, c .before .before .size-of .ensures .1),
+      rw (c .before .before .size-of .ensures .0)
+          (head-room (a .out .now) (a .at) (oneLine sizeWord (length (membersOf (a .colours .now) 0 (a .g)))) (memberLines (membersOf (a .colours .now) 0 (a .g)))
+          (c .before .before .before .before .before .pre .1)),
+    )
 
 put-members-requires : tie.Need-put-members-requires
-put-members-requires c κs = let a = c .before .before .before .before .before .before .before .before .before .args in (c .before .before .before .before .before .before .before .before .before .pre .0, rest-room (a .out .now) (a .at) (oneLine sizeWord (length (membersOf (a .colours .now) 0 (a .g)))) (memberLines (membersOf (a .colours .now) 0 (a .g))) (c .before .before .before .before .before .before .before .before .before .pre .1) _ _ (subst (λ (x : List ℕ). Put (a .out .now) (a .at) x (c .before .before .before .put-one .last .0) (c .before .before .before .put-one .result)) (sized (c .before .before .before .before .before .before)) (c .before .before .before .put-one .ensures)))
+put-members-requires c κs =
+    let a = c .before .before .before .before .before .before .before .before .before .args in (
+      c .before .before .before .before .before .before .before .before .before .pre .0,
+      rest-room (a .out .now) (a .at)
+          (oneLine sizeWord (length (membersOf (a .colours .now) 0 (a .g)))) (memberLines (membersOf (a .colours .now) 0 (a .g)))
+          (c .before .before .before .before .before .before .before .before .before .pre .1) _ _
+          (subst (λ (x : List ℕ). Put (a .out .now) (a .at) x (c .before .before .before .put-one .last .0) (c .before .before .before .put-one .result))
+          (sized (c .before .before .before .before .before .before)) (c .before .before .before .put-one .ensures)),
+    )
 
 same-length : tie.Need-same-length
 same-length c = search needs
 
 returns : tie.Need-returns
-returns c = let a = c .before .before .before .before .before .before .before .before .before .before .before .before .args in both-put (a .out .now) (a .at) (oneLine sizeWord (length (membersOf (a .colours .now) 0 (a .g)))) (memberLines (membersOf (a .colours .now) 0 (a .g))) (c .before .before .before .before .before .before .before .before .before .before .before .before .pre .1) _ _ (subst (λ (x : List ℕ). Put (a .out .now) (a .at) x (c .before .before .before .before .before .before .put-one .last .0) (c .before .before .before .before .before .before .put-one .result)) (sized (c .before .before .before .before .before .before .before .before .before)) (c .before .before .before .before .before .before .put-one .ensures)) _ _ (c .before .before .put-members .ensures)
+returns c =
+    let a = c .before .before .before .before .before .before .before .before .before .before .before .before .args in
+    both-put (a .out .now) (a .at) (oneLine sizeWord (length (membersOf (a .colours .now) 0 (a .g)))) (memberLines (membersOf (a .colours .now) 0 (a .g)))
+    (c .before .before .before .before .before .before .before .before .before .before .before .before .pre .1) _ _
+    (subst (λ (x : List ℕ). Put (a .out .now) (a .at) x (c .before .before .before .before .before .before .put-one .last .0)
+    (c .before .before .before .before .before .before .put-one .result)) (sized (c .before .before .before .before .before .before .before .before .before))
+    (c .before .before .before .before .before .before .put-one .ensures)) _ _ (c .before .before .put-members .ensures)
 
 pub put-group-spec : {M : Type 1} → statement M
 put-group-spec =

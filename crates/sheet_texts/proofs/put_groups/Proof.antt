@@ -15,10 +15,21 @@ abbrev μ-loop : tie.MeasureT-loop
 μ-loop out₀ at colours k a₀ g₀ out a g = k - g
 
 loop-holds : tie.Need-loop-holds Inv-loop μ-loop
-loop-holds c = (omega arith, left-skip _ _ _ (c .before .before .args .out .now) (c .before .before .args .at) _ (left-begin (c .before .before .args .out .now) (c .before .before .args .at) _ (c .before .before .pre .1)) _ (groups-all (c .before .before .args .colours .now) (c .before .before .args .k)))
+loop-holds c = (
+  omega arith,
+  left-skip _ _ _ (c .before .before .args .out .now) (c .before .before .args .at) _
+      (left-begin (c .before .before .args .out .now) (c .before .before .args .at) _ (c .before .before .pre .1)) _
+      (groups-all (c .before .before .args .colours .now) (c .before .before .args .k)),
+)
 
 put-group-requires : tie.Need-put-group-requires Inv-loop μ-loop
-put-group-requires c κs = let a = c .before .before .before .before .before .args in let b = c .before .before .loop in (c .before .before .before .before .before .pre .0, left-room (a .out .now) (a .at) _ (b .out) (b .a) _ (b .inv .1) (groupText (a .colours .now) (b .g)) _ (groups-more (a .colours .now) (b .g) (a .k) (c .before .loop-test .taken)))
+put-group-requires c κs =
+    let a = c .before .before .before .before .before .args in
+    let b = c .before .before .loop in (
+      c .before .before .before .before .before .pre .0,
+      left-room (a .out .now) (a .at) _ (b .out) (b .a) _ (b .inv .1) (groupText (a .colours .now) (b .g)) _
+          (groups-more (a .colours .now) (b .g) (a .k) (c .before .loop-test .taken)),
+    )
 
 add-g : tie.Need-add-g Inv-loop μ-loop
 add-g c = search needs
@@ -27,7 +38,13 @@ loop-less : tie.Need-loop-less Inv-loop μ-loop
 loop-less c = search needs
 
 loop-again : tie.Need-loop-again Inv-loop μ-loop
-loop-again c = let a = c .before .before .before .before .before .before .before .before .args in let b = c .before .before .before .before .before .loop in (omega arith, left-put (a .out .now) (a .at) _ (b .out) (b .a) _ (b .inv .1) (groupText (a .colours .now) (b .g)) _ (groups-more (a .colours .now) (b .g) (a .k) (c .before .before .before .before .loop-test .taken)) _ _ (c .before .before .put-group .ensures))
+loop-again c =
+    let a = c .before .before .before .before .before .before .before .before .args in
+    let b = c .before .before .before .before .before .loop in (
+      omega arith,
+      left-put (a .out .now) (a .at) _ (b .out) (b .a) _ (b .inv .1) (groupText (a .colours .now) (b .g)) _
+          (groups-more (a .colours .now) (b .g) (a .k) (c .before .before .before .before .loop-test .taken)) _ _ (c .before .before .put-group .ensures),
+    )
 
 same-length : tie.Need-same-length Inv-loop μ-loop
 same-length c = c .before .loop .inv .1 .same

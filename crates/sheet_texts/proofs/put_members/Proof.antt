@@ -49,7 +49,14 @@ add-put-one : tie.Need-add-put-one Inv-loop μ-loop
 add-put-one c = search needs
 
 put-one-requires : tie.Need-put-one-requires Inv-loop μ-loop
-put-one-requires c κs = let a = c .before .before .before .before .before .before .before .before .before .args in let b = c .before .before .before .before .before .before .loop in (omega arith, left-room (a .out .now) (a .at) _ (b .out) (b .a) _ (b .inv .1) (oneLine [] (b .i + 1)) _ (ap memberLines (member-yes (a .colours .now) (b .i) (a .g) _ (c .before .before .before .before .before .loop-test .taken) (c .before .before .before .wide .ensures) (c .before .before .if1 .taken))))
+put-one-requires c κs =
+    let a = c .before .before .before .before .before .before .before .before .before .args in
+    let b = c .before .before .before .before .before .before .loop in (
+      omega arith,
+      left-room (a .out .now) (a .at) _ (b .out) (b .a) _ (b .inv .1) (oneLine [] (b .i + 1)) _
+          (ap memberLines (member-yes (a .colours .now) (b .i) (a .g) _ (c .before .before .before .before .before .loop-test .taken) (c .before .before .before .wide .ensures)
+          (c .before .before .if1 .taken))),
+    )
 
 add-i : tie.Need-add-i Inv-loop μ-loop
 add-i c = search needs

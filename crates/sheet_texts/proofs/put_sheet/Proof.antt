@@ -20,16 +20,32 @@ slice-aggregate-put-one : tie.Need-slice-aggregate-put-one
 slice-aggregate-put-one c = search needs
 
 put-one-requires : tie.Need-put-one-requires
-put-one-requires c κs = let a = c .before .before .before .before .args in (omega (arith, c .before .before .before .before .pre .2), head-room (a .out .now) 0 (oneLine groupsWord (a .k)) (groupsText (a .colours .now) 0 (a .k)) (room (c .before .before .before .before)))
+put-one-requires c κs =
+    let a = c .before .before .before .before .args in (
+      omega (arith, c .before .before .before .before .pre .2),
+      head-room (a .out .now) 0 (oneLine groupsWord (a .k)) (groupsText (a .colours .now) 0 (a .k))
+          (room (c .before .before .before .before)),
+    )
 
 put-groups-requires : tie.Need-put-groups-requires
-put-groups-requires c κs = let a = c .before .before .before .before .before .before .before .before .args in (c .before .before .before .before .before .before .before .before .pre .0, rest-room (a .out .now) 0 (oneLine groupsWord (a .k)) (groupsText (a .colours .now) 0 (a .k)) (room (c .before .before .before .before .before .before .before .before)) _ _ (c .before .before .before .put-one .ensures))
+put-groups-requires c κs =
+    let a = c .before .before .before .before .before .before .before .before .args in (
+      c .before .before .before .before .before .before .before .before .pre .0,
+      rest-room (a .out .now) 0 (oneLine groupsWord (a .k))
+          (groupsText (a .colours .now) 0 (a .k)) (room (c .before .before .before .before .before .before .before .before)) _ _ (c .before .before .before .put-one .ensures),
+    )
 
 same-length : tie.Need-same-length
 same-length c = search needs
 
 returns : tie.Need-returns
-returns c = let a = c .before .before .before .before .before .before .before .before .before .before .before .args in subst (λ (x : List ℕ). Put (a .out .now) 0 x (c .before .before .put-groups .last .0) (c .before .before .put-groups .result)) (sym (sheet-is (a .colours .now) (a .k) (c .before .before .before .before .before .before .before .before .before .before .before .pre .1))) (both-put (a .out .now) 0 (oneLine groupsWord (a .k)) (groupsText (a .colours .now) 0 (a .k)) (room (c .before .before .before .before .before .before .before .before .before .before .before)) _ _ (c .before .before .before .before .before .before .put-one .ensures) _ _ (c .before .before .put-groups .ensures))
+returns c =
+    let a = c .before .before .before .before .before .before .before .before .before .before .before .args in
+    subst (λ (x : List ℕ). Put (a .out .now) 0 x (c .before .before .put-groups .last .0) (c .before .before .put-groups .result))
+    (sym (sheet-is (a .colours .now) (a .k) (c .before .before .before .before .before .before .before .before .before .before .before .pre .1)))
+    (both-put (a .out .now) 0 (oneLine groupsWord (a .k)) (groupsText (a .colours .now) 0 (a .k))
+    (room (c .before .before .before .before .before .before .before .before .before .before .before)) _ _
+    (c .before .before .before .before .before .before .put-one .ensures) _ _ (c .before .before .put-groups .ensures))
 
 pub put-sheet-spec : {M : Type 1} → statement M
 put-sheet-spec =

@@ -25,7 +25,9 @@ one-requires : tie.Need-one-requires
 one-requires c κs = search needs
 
 returns : tie.Need-returns
-returns c = c .one .ensures ∙ ap aloneOf (rest (c .before .before .before .before .before .before .args .s .now) (length (c .before .before .before .before .before .before .args .w .now))) ∙ rw (sym (c .before .before .before .begins .ensures) ∙ c .before .before .if1 .taken)
+returns c =
+    c .one .ensures ∙ ap aloneOf (rest (c .before .before .before .before .before .before .args .s .now)
+    (length (c .before .before .before .before .before .before .args .w .now))) ∙ rw (sym (c .before .before .before .begins .ensures) ∙ c .before .before .if1 .taken)
 
 returns-2 : tie.Need-returns-2
 returns-2 c = rw (sym (c .before .begins .ensures) ∙ c .if1 .left)

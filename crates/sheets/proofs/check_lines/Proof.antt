@@ -17,7 +17,10 @@ use Rattle.sheets.proofs.check_lines.Statement.{statement}
 use Rattle.sheets.proofs.check_lines.Tie as tie
 
 abbrev Inv-loop : tie.InvT-loop
-Inv-loop rows n sheet p₀ mates₀ earlier₀ colours₀ at₀ line₀ p mates earlier colours at line = (at ≤ length sheet) × (length sheet ≤ longestText) × (line ≤ at + 1) × (length colours ≡ mostEntries) × Sound p × Within n mates × (checkFrom (linesOf (drop at sheet)) n (matrix rows) line p (has mates) (has earlier) colours ≡ checkFrom (linesOf sheet) n (matrix rows) 1 start none none noColours)
+Inv-loop rows n sheet p₀ mates₀ earlier₀ colours₀ at₀ line₀ p mates earlier colours at line =
+    (at ≤ length sheet) × (length sheet ≤ longestText) × (line ≤ at + 1) × (length colours ≡ mostEntries) × Sound p × Within n mates
+    × (checkFrom (linesOf (drop at sheet)) n (matrix rows) line p (has mates) (has earlier) colours
+    ≡ checkFrom (linesOf sheet) n (matrix rows) 1 start none none noColours)
 
 abbrev μ-loop : tie.MeasureT-loop
 μ-loop rows n sheet p₀ mates₀ earlier₀ colours₀ at₀ line₀ p mates earlier colours at line = length sheet - at
@@ -26,7 +29,8 @@ turned : (c : tie.At-match-came Inv-loop μ-loop) →
     let b = c .before .before .before .before .before .before in
     let a = b .before .before .before .before .args in
     let e = c .before .before .before .before .line-end in
-    Turned mostEntries (a .sheet .now) (a .n) (matrix (a .rows .now)) (b .loop .at) (e .result) (b .loop .line) (b .loop .p) (b .loop .mates) (b .loop .earlier) (b .loop .colours) (e .ensures .0) (c .before .before .before .if2 .left) (c .match .p) (c .match .mates) (c .match .earlier) (c .match .colours)
+    Turned mostEntries (a .sheet .now) (a .n) (matrix (a .rows .now)) (b .loop .at) (e .result) (b .loop .line) (b .loop .p) (b .loop .mates) (b .loop .earlier)
+    (b .loop .colours) (e .ensures .0) (c .before .before .before .if2 .left) (c .match .p) (c .match .mates) (c .match .earlier) (c .match .colours)
 turned c =
     let b = c .before .before .before .before .before .before in
     let a = b .before .before .before .before .args in
@@ -36,9 +40,11 @@ turned c =
     let i = b .loop .inv in
     let st = sym (c .before .line-step .ensures) in
     ⊎-elim
-    (λ w. turned-count mostEntries (a .sheet .now) (a .n) (matrix (a .rows .now)) (b .loop .at) (e .result) (b .loop .line) (b .loop .p) (b .loop .mates) (b .loop .earlier) (b .loop .colours) (e .ensures .0) l few (i .3) (i .5) (i .4)
+    (λ w. turned-count mostEntries (a .sheet .now) (a .n) (matrix (a .rows .now)) (b .loop .at) (e .result) (b .loop .line) (b .loop .p) (b .loop .mates)
+    (b .loop .earlier) (b .loop .colours) (e .ensures .0) l few (i .3) (i .5) (i .4)
     (w .1 .given .0 .0) (st ∙ w .1 .given .1) _ _ _ _ _ (w .3 .ensures) (w .7) (w .4) (w .5) (w .6))
-    (λ w. turned-place mostEntries (a .sheet .now) (a .n) (matrix (a .rows .now)) (b .loop .at) (e .result) (b .loop .line) (b .loop .p) (b .loop .mates) (b .loop .earlier) (b .loop .colours) (e .ensures .0) l few (i .3) (i .5) (i .4)
+    (λ w. turned-place mostEntries (a .sheet .now) (a .n) (matrix (a .rows .now)) (b .loop .at) (e .result) (b .loop .line) (b .loop .p) (b .loop .mates)
+    (b .loop .earlier) (b .loop .colours) (e .ensures .0) l few (i .3) (i .5) (i .4)
     (w .1 .given .0 .0) (w .1 .given .0 .1 .0) (w .1 .given .0 .1 .1 .0) (st ∙ w .1 .given .1) _ _ _ _ _ (w .3 .ensures) (w .7) (w .4) (w .5) (w .6))
     (c .match .came)
 
@@ -58,7 +64,11 @@ unended-requires : tie.Need-unended-requires Inv-loop μ-loop
 unended-requires c κs = search needs
 
 returns-2 : tie.Need-returns-2 Inv-loop μ-loop
-returns-2 c = let b = c .before .before .before .before .loop in let s = c .before .before .before .before .before .before .before .before .args .sheet .now in c .unended .ensures ∙ sym (check-halts mostEntries s _ _ (b .at) _ _ (b .p) _ _ (b .colours) (c .before .before .line-end .ensures .0) (c .before .before .before .loop-test .taken) (c .before .if2 .taken)) ∙ b .inv .6 ∙ check-short mostEntries s _ _ longestText (b .inv .1)
+returns-2 c =
+    let b = c .before .before .before .before .loop in
+    let s = c .before .before .before .before .before .before .before .before .args .sheet .now in
+    c .unended .ensures ∙ sym (check-halts mostEntries s _ _ (b .at) _ _ (b .p) _ _ (b .colours) (c .before .before .line-end .ensures .0)
+    (c .before .before .before .loop-test .taken) (c .before .if2 .taken)) ∙ b .inv .6 ∙ check-short mostEntries s _ _ longestText (b .inv .1)
 
 sub-line-step : tie.Need-sub-line-step Inv-loop μ-loop
 sub-line-step c = search needs
@@ -70,7 +80,12 @@ part-line-step-end : tie.Need-part-line-step-end Inv-loop μ-loop
 part-line-step-end c = search needs
 
 line-step-requires : tie.Need-line-step-requires Inv-loop μ-loop
-line-step-requires c κs = (c .before .before .before .before .before .before .before .before .pre .0, c .before .before .before .before .before .before .before .before .pre .1, c .before .before .before .before .loop .inv .4, c .before .before .before .before .loop .inv .5)
+line-step-requires c κs = (
+  c .before .before .before .before .before .before .before .before .pre .0,
+  c .before .before .before .before .before .before .before .before .pre .1,
+  c .before .before .before .before .loop .inv .4,
+  c .before .before .before .before .loop .inv .5,
+)
 
 enum-known-why : tie.Need-enum-known-why Inv-loop μ-loop
 enum-known-why c = search needs
@@ -79,7 +94,12 @@ refused-requires-2 : tie.Need-refused-requires-2 Inv-loop μ-loop
 refused-requires-2 c κs = search needs
 
 returns-3 : tie.Need-returns-3 Inv-loop μ-loop
-returns-3 c = let b = c .before .before .before .before .before .before .before .before .before .loop in let s = c .before .before .before .before .before .before .before .before .before .before .before .before .before .args .sheet .now in c .refused2 .ensures ∙ sym (turn mostEntries s _ _ (b .at) _ _ (b .p) (b .mates) (b .earlier) (b .colours) (c .before .before .before .before .before .before .before .line-end .ensures .0) (c .before .before .before .before .before .before .if2 .left) _ (sym (c .before .before .before .before .line-step .ensures) ∙ c .before .before .why .given .1)) ∙ b .inv .6 ∙ check-short mostEntries s _ _ longestText (b .inv .1)
+returns-3 c =
+    let b = c .before .before .before .before .before .before .before .before .before .loop in
+    let s = c .before .before .before .before .before .before .before .before .before .before .before .before .before .args .sheet .now in
+    c .refused2 .ensures ∙ sym (turn mostEntries s _ _ (b .at) _ _ (b .p) (b .mates) (b .earlier) (b .colours)
+    (c .before .before .before .before .before .before .before .line-end .ensures .0) (c .before .before .before .before .before .before .if2 .left) _
+    (sym (c .before .before .before .before .line-step .ensures) ∙ c .before .before .why .given .1)) ∙ b .inv .6 ∙ check-short mostEntries s _ _ longestText (b .inv .1)
 
 enum-known-q : tie.Need-enum-known-q Inv-loop μ-loop
 enum-known-q c = search needs
@@ -91,10 +111,24 @@ enum-known-q-2 : tie.Need-enum-known-q-2 Inv-loop μ-loop
 enum-known-q-2 c = search needs
 
 with-requires : tie.Need-with-requires Inv-loop μ-loop
-with-requires c κs = let b = c .before .before .before .before .before .before .before .before .loop in place-below mostEntries (c .before .before .before .before .before .before .before .before .before .before .before .before .args .sheet .now) (c .before .before .before .before .before .before .before .before .before .before .before .before .args .n) _ (b .at) _ (b .line) (b .p) (b .mates) (b .earlier) (b .colours) (c .before .before .before .before .before .before .line-end .ensures .0) (c .before .before .before .before .before .if2 .left) (c .before .before .before .before .before .before .before .before .before .before .before .before .pre .0) (b .inv .3) (b .inv .5) (b .inv .4) _ _ _ (sym (c .before .before .before .line-step .ensures) ∙ c .before .q2 .given .1)
+with-requires c κs =
+    let b = c .before .before .before .before .before .before .before .before .loop in
+    place-below mostEntries (c .before .before .before .before .before .before .before .before .before .before .before .before .args .sheet .now)
+    (c .before .before .before .before .before .before .before .before .before .before .before .before .args .n) _ (b .at) _ (b .line) (b .p) (b .mates) (b .earlier)
+    (b .colours) (c .before .before .before .before .before .before .line-end .ensures .0) (c .before .before .before .before .before .if2 .left)
+    (c .before .before .before .before .before .before .before .before .before .before .before .before .pre .0) (b .inv .3) (b .inv .5) (b .inv .4) _ _ _
+    (sym (c .before .before .before .line-step .ensures) ∙ c .before .q2 .given .1)
 
 array-write-colours : tie.Need-array-write-colours Inv-loop μ-loop
-array-write-colours c = let b = c .before .before .before .before .before .before .before .before .before .loop in let h = place-below mostEntries (c .before .before .before .before .before .before .before .before .before .before .before .before .before .args .sheet .now) (c .before .before .before .before .before .before .before .before .before .before .before .before .before .args .n) _ (b .at) _ (b .line) (b .p) (b .mates) (b .earlier) (b .colours) (c .before .before .before .before .before .before .before .line-end .ensures .0) (c .before .before .before .before .before .before .if2 .left) (c .before .before .before .before .before .before .before .before .before .before .before .before .before .pre .0) (b .inv .3) (b .inv .5) (b .inv .4) _ _ _ (sym (c .before .before .before .before .line-step .ensures) ∙ c .before .before .q2 .given .1) in search needs
+array-write-colours c =
+    let b = c .before .before .before .before .before .before .before .before .before .loop in
+    let h = place-below mostEntries (c .before .before .before .before .before .before .before .before .before .before .before .before .before .args .sheet .now)
+    (c .before .before .before .before .before .before .before .before .before .before .before .before .before .args .n) _ (b .at) _ (b .line) (b .p) (b .mates)
+    (b .earlier) (b .colours) (c .before .before .before .before .before .before .before .line-end .ensures .0)
+    (c .before .before .before .before .before .before .if2 .left)
+    (c .before .before .before .before .before .before .before .before .before .before .before .before .before .pre .0) (b .inv .3) (b .inv .5) (b .inv .4) _ _ _
+    (sym (c .before .before .before .before .line-step .ensures) ∙ c .before .before .q2 .given .1) in
+    search needs
 
 add-at : tie.Need-add-at Inv-loop μ-loop
 add-at c = omega (arith, c .before .before .before .before .line-end .ensures .0)
@@ -112,7 +146,11 @@ ended-requires : tie.Need-ended-requires Inv-loop μ-loop
 ended-requires c κs = search needs
 
 returns-4 : tie.Need-returns-4 Inv-loop μ-loop
-returns-4 c = let b = c .before .before .loop in let s = c .before .before .before .before .before .before .args .sheet .now in c .ended .ensures ∙ sym (check-ends mostEntries s _ _ (b .at) _ (b .p) _ _ (b .colours) (c .before .loop-test .left)) ∙ b .inv .6 ∙ check-short mostEntries s _ _ longestText (b .inv .1)
+returns-4 c =
+    let b = c .before .before .loop in
+    let s = c .before .before .before .before .before .before .args .sheet .now in
+    c .ended .ensures ∙ sym (check-ends mostEntries s _ _ (b .at) _ (b .p) _ _ (b .colours) (c .before .loop-test .left)) ∙ b .inv .6
+    ∙ check-short mostEntries s _ _ longestText (b .inv .1)
 
 pub check-lines-spec : {M : Type 1} → statement M
 check-lines-spec =

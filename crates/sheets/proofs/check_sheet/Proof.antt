@@ -16,13 +16,24 @@ slice-aggregate-copy-bytes : tie.Need-slice-aggregate-copy-bytes
 slice-aggregate-copy-bytes c = search needs
 
 copy-bytes-requires : tie.Need-copy-bytes-requires
-copy-bytes-requires c κs = let a = c .before .before .before .before .before .before .before .args in let o = c .before .before .before .check in let f : Fits mostEntries longestText (length (a .colours .now)) (o .result) = subst (Fits mostEntries longestText (length (a .colours .now))) (sym (o .ensures)) (check-fits mostEntries longestText (a .list .now) (a .sheet .now) (length (a .colours .now))) in let z : length (o .result .colours) ≡ 64 = search needs in (omega arith, f .fits)
+copy-bytes-requires c κs =
+    let a = c .before .before .before .before .before .before .before .args in
+    let o = c .before .before .before .check in
+    let f : Fits mostEntries longestText (length (a .colours .now)) (o .result) = subst (Fits mostEntries longestText (length (a .colours .now))) (sym (o .ensures))
+    (check-fits mostEntries longestText (a .list .now) (a .sheet .now) (length (a .colours .now))) in
+    let z : length (o .result .colours) ≡ 64 = search needs in
+    (omega arith, f .fits)
 
 same-length : tie.Need-same-length
 same-length c = search needs
 
 returns : tie.Need-returns
-returns c = check-handed mostEntries longestText (c .before .before .before .before .before .before .before .before .before .before .args .list .now) (c .before .before .before .before .before .before .before .before .before .before .args .sheet .now) (c .before .before .before .before .before .before .before .before .before .before .args .colours .now) _ (c .before .before .before .before .before .before .check .result) (c .before .before .before .before .before .before .check .ensures) (c .before .before .copy-bytes .ensures)
+returns c =
+    check-handed mostEntries longestText (c .before .before .before .before .before .before .before .before .before .before .args .list .now)
+    (c .before .before .before .before .before .before .before .before .before .before .args .sheet .now)
+    (c .before .before .before .before .before .before .before .before .before .before .args .colours .now) _
+    (c .before .before .before .before .before .before .check .result) (c .before .before .before .before .before .before .check .ensures)
+    (c .before .before .copy-bytes .ensures)
 
 pub check-sheet-spec : {M : Type 1} → statement M
 check-sheet-spec =

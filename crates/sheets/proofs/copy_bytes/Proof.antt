@@ -31,7 +31,12 @@ loop-less : tie.Need-loop-less Inv-loop μ-loop
 loop-less c = search needs
 
 loop-again : tie.Need-loop-again Inv-loop μ-loop
-loop-again c = (omega arith, simp length-set (c .before .before .loop .inv .1), copied (c .before .before .before .args .to .now) (c .before .before .before .args .from .now) _ (c .before .before .loop .i) (c .before .before .loop .inv .2) (omega arith) (omega arith))
+loop-again c = (
+  omega arith,
+  simp length-set (c .before .before .loop .inv .1),
+  copied (c .before .before .before .args .to .now) (c .before .before .before .args .from .now) _
+      (c .before .before .loop .i) (c .before .before .loop .inv .2) (omega arith) (omega arith),
+)
 
 same-length : tie.Need-same-length Inv-loop μ-loop
 same-length c = search needs

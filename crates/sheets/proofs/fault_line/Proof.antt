@@ -15,13 +15,19 @@ shown-requires : tie.Need-shown-requires
 shown-requires c κs = search needs
 
 returns : tie.Need-returns
-returns c = let a = c .before .before .before .before .before .before .before .args in preview-list mostEntries longestText (a .list) (a .sheet) (a .room) _ _ (c .shown .result) (c .before .before .before .before .check .ensures) (c .before .before .before .numbers-of .ensures) (c .before .if1 .taken) (c .shown .ensures)
+returns c =
+    let a = c .before .before .before .before .before .before .before .args in
+    preview-list mostEntries longestText (a .list) (a .sheet) (a .room) _ _ (c .shown .result) (c .before .before .before .before .check .ensures)
+    (c .before .before .before .numbers-of .ensures) (c .before .if1 .taken) (c .shown .ensures)
 
 shown-requires-2 : tie.Need-shown-requires-2
 shown-requires-2 c κs = search needs
 
 returns-2 : tie.Need-returns-2
-returns-2 c = let a = c .before .before .before .before .before .before .before .args in preview-sheet mostEntries longestText (a .list) (a .sheet) (a .room) _ _ (c .shown2 .result) (c .before .before .before .before .check .ensures) (c .before .before .before .numbers-of .ensures) (c .before .if1 .left) (c .shown2 .ensures)
+returns-2 c =
+    let a = c .before .before .before .before .before .before .before .args in
+    preview-sheet mostEntries longestText (a .list) (a .sheet) (a .room) _ _ (c .shown2 .result) (c .before .before .before .before .check .ensures)
+    (c .before .before .before .numbers-of .ensures) (c .before .if1 .left) (c .shown2 .ensures)
 
 pub fault-line-spec : {M : Type 1} → statement M
 fault-line-spec =

@@ -14,7 +14,10 @@ member-line-requires : tie.Need-member-line-requires
 member-line-requires c κs = search needs
 
 returns : tie.Need-returns
-returns c = let a = c .before .before .before .before .before .before .before .args in c .member-line .ensures ∙ sym (at-member (a .n) (matrix (a .rows .now)) (a .p) (has (a .mates)) (has (a .earlier)) (a .l .now) _ (c .before .before .before .before .if1 .taken) (c .before .before .if2 .taken) (sym (c .before .one .ensures)))
+returns c =
+    let a = c .before .before .before .before .before .before .before .args in
+    c .member-line .ensures ∙ sym (at-member (a .n) (matrix (a .rows .now)) (a .p) (has (a .mates)) (has (a .earlier)) (a .l .now) _
+    (c .before .before .before .before .if1 .taken) (c .before .before .if2 .taken) (sym (c .before .one .ensures)))
 
 slice-aggregate-behind : tie.Need-slice-aggregate-behind
 slice-aggregate-behind c = search needs
@@ -26,10 +29,17 @@ size-line-requires : tie.Need-size-line-requires
 size-line-requires c κs = search needs
 
 returns-2 : tie.Need-returns-2
-returns-2 c = let a = c .before .before .before .before .before .before .before .before .before .before .args in c .size-line .ensures ∙ sym (at-size (a .n) (matrix (a .rows .now)) (a .p) (has (a .mates)) (has (a .earlier)) (a .l .now) _ (c .before .before .before .before .before .before .before .if1 .taken) (c .before .before .before .before .before .if2 .left) (c .before .before .before .if3 .taken) (sym (c .before .behind .ensures)))
+returns-2 c =
+    let a = c .before .before .before .before .before .before .before .before .before .before .args in
+    c .size-line .ensures ∙ sym (at-size (a .n) (matrix (a .rows .now)) (a .p) (has (a .mates)) (has (a .earlier)) (a .l .now) _
+    (c .before .before .before .before .before .before .before .if1 .taken) (c .before .before .before .before .before .if2 .left) (c .before .before .before .if3 .taken)
+    (sym (c .before .behind .ensures)))
 
 returns-3 : tie.Need-returns-3
-returns-3 c = let a = c .before .before .before .before .before .before .before .args in sym (at-end (a .n) (matrix (a .rows .now)) (a .p) (has (a .mates)) (has (a .earlier)) (a .l .now) (c .before .before .before .before .if1 .taken) (c .before .before .if2 .left) (c .if3 .left))
+returns-3 c =
+    let a = c .before .before .before .before .before .before .before .args in
+    sym (at-end (a .n) (matrix (a .rows .now)) (a .p) (has (a .mates)) (has (a .earlier)) (a .l .now) (c .before .before .before .before .if1 .taken)
+    (c .before .before .if2 .left) (c .if3 .left))
 
 slice-aggregate-behind-2 : tie.Need-slice-aggregate-behind-2
 slice-aggregate-behind-2 c = search needs
@@ -41,7 +51,10 @@ groups-line-requires : tie.Need-groups-line-requires
 groups-line-requires c κs = search needs
 
 returns-4 : tie.Need-returns-4
-returns-4 c = let a = c .before .before .before .before .before .before .args in c .groups-line .ensures ∙ sym (at-groups (a .n) (matrix (a .rows .now)) (a .p) (has (a .mates)) (has (a .earlier)) (a .l .now) _ (c .before .before .before .if1 .left) (sym (c .before .behind2 .ensures)))
+returns-4 c =
+    let a = c .before .before .before .before .before .before .args in
+    c .groups-line .ensures ∙ sym (at-groups (a .n) (matrix (a .rows .now)) (a .p) (has (a .mates)) (has (a .earlier)) (a .l .now) _
+    (c .before .before .before .if1 .left) (sym (c .before .behind2 .ensures)))
 
 pub line-step-spec : {M : Type 1} → statement M
 line-step-spec =

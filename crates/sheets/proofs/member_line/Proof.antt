@@ -27,13 +27,24 @@ returns-3 : tie.Need-returns-3
 returns-3 c = simp (c .before .before .before .a .given .1, le-leb _ _ (c .before .if1 .left), lt-leb _ _ (c .if2 .taken))
 
 returns-4 : tie.Need-returns-4
-returns-4 c = let a = c .before .before .before .before .before .before .before .before .args in sym (below-floor (a .n) (matrix (a .rows .now)) (a .p) (has (a .mates)) (has (a .earlier)) (a .a) _ (c .before .before .before .before .before .a .given .1) (c .before .before .before .if1 .left) (c .before .before .if2 .left) (c .if3 .taken))
+returns-4 c =
+    let a = c .before .before .before .before .before .before .before .before .args in
+    sym (below-floor (a .n) (matrix (a .rows .now)) (a .p) (has (a .mates)) (has (a .earlier)) (a .a) _ (c .before .before .before .before .before .a .given .1)
+    (c .before .before .before .if1 .left) (c .before .before .if2 .left) (c .if3 .taken))
 
 has-requires : tie.Need-has-requires
 has-requires c κs = search needs
 
 returns-5 : tie.Need-returns-5
-returns-5 c = simp (c .before .before .before .before .before .before .before .a .given .1, le-leb _ _ (c .before .before .before .before .before .if1 .left), le-leb _ _ (c .before .before .before .before .if2 .left), lt-ltb _ _ (c .before .before .if3 .left), sym (c .before .has .ensures) ∙ c .if4 .taken)
+returns-5 c =
+    simp (
+      c .before .before .before .before .before .before .before .a .given .1,
+      le-leb _ _ (c .before .before .before .before .before .if1 .left),
+      le-leb _ _
+          (c .before .before .before .before .if2 .left),
+      lt-ltb _ _ (c .before .before .if3 .left),
+      sym (c .before .has .ensures) ∙ c .if4 .taken,
+    )
 
 mul-meet : tie.Need-mul-meet
 mul-meet c = search needs
@@ -45,10 +56,27 @@ meet-requires : tie.Need-meet-requires
 meet-requires c κs = search needs
 
 returns-6 : tie.Need-returns-6
-returns-6 c = simp (c .before .before .before .before .before .before .before .before .before .before .a .given .1, le-leb _ _ (c .before .before .before .before .before .before .before .before .if1 .left), le-leb _ _ (c .before .before .before .before .before .before .before .if2 .left), lt-ltb _ _ (c .before .before .before .before .before .if3 .left), sym (c .before .before .before .before .has .ensures) ∙ c .before .before .before .if4 .left, common-some _ _ _ _ (c .before .meet .ensures) (c .before .before .before .before .before .before .before .before .before .before .before .before .before .pre .4) (c .if5 .taken))
+returns-6 c =
+    simp (
+      c .before .before .before .before .before .before .before .before .before .before .a .given .1,
+      le-leb _ _
+          (c .before .before .before .before .before .before .before .before .if1 .left),
+      le-leb _ _
+          (c .before .before .before .before .before .before .before .if2 .left),
+      lt-ltb _ _ (c .before .before .before .before .before .if3 .left),
+      sym
+          (c .before .before .before .before .has .ensures) ∙ c .before .before .before .if4 .left,
+      common-some _ _ _ _ (c .before .meet .ensures)
+          (c .before .before .before .before .before .before .before .before .before .before .before .before .before .pre .4) (c .if5 .taken),
+    )
 
 sub-g : tie.Need-sub-g
-sub-g c = omega (arith, c .before .before .before .before .before .before .before .before .before .before .before .before .before .before .pre .3 .inside (c .before .before .before .before .before .before .before .before .before .before .before .before .before .before .pre .2))
+sub-g c =
+    omega (
+      arith,
+      c .before .before .before .before .before .before .before .before .before .before .before .before .before .before .pre .3 .inside
+          (c .before .before .before .before .before .before .before .before .before .before .before .before .before .before .pre .2),
+    )
 
 cast-g : tie.Need-cast-g
 cast-g c = search needs
@@ -57,7 +85,23 @@ with-member-requires : tie.Need-with-member-requires
 with-member-requires c κs = search needs
 
 returns-7 : tie.Need-returns-7
-returns-7 c = simp (c .before .before .before .before .before .before .before .before .before .before .before .before .a .given .1, le-leb _ _ (c .before .before .before .before .before .before .before .before .before .before .if1 .left), le-leb _ _ (c .before .before .before .before .before .before .before .before .before .if2 .left), lt-ltb _ _ (c .before .before .before .before .before .before .before .if3 .left), sym (c .before .before .before .before .before .before .has .ensures) ∙ c .before .before .before .before .before .if4 .left, common-none (c .before .before .before .before .before .before .before .before .before .before .before .before .before .before .before .args .n) (c .before .before .before .before .before .before .before .before .before .before .before .before .before .before .before .args .mates) _ _ (c .before .before .before .meet .ensures) (c .before .before .if5 .left), c .with-member .ensures)
+returns-7 c =
+    simp (
+      c .before .before .before .before .before .before .before .before .before .before .before .before .a .given .1,
+      le-leb _ _
+          (c .before .before .before .before .before .before .before .before .before .before .if1 .left),
+      le-leb _ _
+          (c .before .before .before .before .before .before .before .before .before .if2 .left),
+      lt-ltb _ _
+          (c .before .before .before .before .before .before .before .if3 .left),
+      sym (c .before .before .before .before .before .before .has .ensures)
+          ∙ c .before .before .before .before .before .if4 .left,
+      common-none
+          (c .before .before .before .before .before .before .before .before .before .before .before .before .before .before .before .args .n)
+          (c .before .before .before .before .before .before .before .before .before .before .before .before .before .before .before .args .mates) _ _
+          (c .before .before .before .meet .ensures) (c .before .before .if5 .left),
+      c .with-member .ensures,
+    )
 
 pub member-line-spec : {M : Type 1} → statement M
 member-line-spec =

@@ -17,7 +17,9 @@ line-no-requires : tie.Need-line-no-requires
 line-no-requires c κs = search needs
 
 returns-2 : tie.Need-returns-2
-returns-2 c = let e : _≡_ {A = ℕ} (c .before .before .before .args .line) (suc (c .before .before .before .args .line - 1)) = omega arith in subst (λ (k : ℕ). ShownOf (c .before .before .before .args .text) k (c .line-no .result)) (sym e) (c .line-no .ensures)
+returns-2 c =
+    let e : _≡_ {A = ℕ} (c .before .before .before .args .line) (suc (c .before .before .before .args .line - 1)) = omega arith in
+    subst (λ (k : ℕ). ShownOf (c .before .before .before .args .text) k (c .line-no .result)) (sym e) (c .line-no .ensures)
 
 pub shown-spec : {M : Type 1} → statement M
 shown-spec = tie.close (tie.spec part-requires returns line-no-requires returns-2)

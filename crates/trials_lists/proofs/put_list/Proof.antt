@@ -36,7 +36,9 @@ put-kept-rows-requires : tie.Need-put-kept-rows-requires
 put-kept-rows-requires c κs = search needs
 
 slice-aggregate-written : tie.Need-slice-aggregate-written
-slice-aggregate-written c = let a = c .before .before .before .before .before .before .before .before .before .before .before .before .args in sym (length-take-le (a .n) (a .lent .now) (c .before .before .before .before .before .before .before .before .before .before .before .before .pre))
+slice-aggregate-written c =
+    let a = c .before .before .before .before .before .before .before .before .before .before .before .before .args in
+    sym (length-take-le (a .n) (a .lent .now) (c .before .before .before .before .before .before .before .before .before .before .before .before .pre))
 
 written-requires : tie.Need-written-requires
 written-requires c κs = search needs

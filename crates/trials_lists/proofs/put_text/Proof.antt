@@ -21,7 +21,9 @@ put-requires-2 : tie.Need-put-requires-2
 put-requires-2 c κs = search needs
 
 slice-aggregate-put-3 : tie.Need-slice-aggregate-put-3
-slice-aggregate-put-3 c = let a = c .before .before .before .before .before .before .before .before .args in sym (length-take-le (a .len) (a .out .now) (c .before .before .before .before .before .before .before .before .pre))
+slice-aggregate-put-3 c =
+    let a = c .before .before .before .before .before .before .before .before .args in
+    sym (length-take-le (a .len) (a .out .now) (c .before .before .before .before .before .before .before .before .pre))
 
 put-requires-3 : tie.Need-put-requires-3
 put-requires-3 c κs = search needs

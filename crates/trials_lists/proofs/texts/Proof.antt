@@ -16,8 +16,12 @@ Inv-loop file at₀ k₀ t8 t9 at k = at ≤ length file
 abbrev μ-loop : tie.MeasureT-loop
 μ-loop file at₀ k₀ t8 t9 at k = length file - at
 
-known : (c : tie.After-known-told Inv-loop μ-loop) → Within (c .before .before .before .before .before .loop .at) (length (c .before .before .before .before .before .before .before .args .file .now)) (Text (c .before .room .given .0 .0) (c .before .room .given .0 .1 .0) (c .before .room .given .0 .1 .1 .0))
-known c = subst (Within (c .before .before .before .before .before .loop .at) (length (c .before .before .before .before .before .before .before .args .file .now))) (c .before .room .given .1) (c .before .before .before .find .ensures)
+known : (c : tie.After-known-told Inv-loop μ-loop)
+    → Within (c .before .before .before .before .before .loop .at) (length (c .before .before .before .before .before .before .before .args .file .now))
+    (Text (c .before .room .given .0 .0) (c .before .room .given .0 .1 .0) (c .before .room .given .0 .1 .1 .0))
+known c =
+    subst (Within (c .before .before .before .before .before .loop .at) (length (c .before .before .before .before .before .before .before .args .file .now)))
+    (c .before .room .given .1) (c .before .before .before .find .ensures)
 
 loop-holds : tie.Need-loop-holds Inv-loop μ-loop
 loop-holds c = search needs
@@ -40,8 +44,8 @@ returns c = search needs
 enum-known-room : tie.Need-enum-known-room Inv-loop μ-loop
 enum-known-room c = search needs
 
-put-number-requires : tie.Need-put-number-requires Inv-loop μ-loop
-put-number-requires c κs = search needs
+put-word-requires : tie.Need-put-word-requires Inv-loop μ-loop
+put-word-requires c κs = search needs
 
 slice-aggregate-put-2 : tie.Need-slice-aggregate-put-2 Inv-loop μ-loop
 slice-aggregate-put-2 c = search needs
@@ -65,7 +69,10 @@ array-borrow-prefix-lent : tie.Need-array-borrow-prefix-lent Inv-loop μ-loop
 array-borrow-prefix-lent c = let k = known (c .before .before .before .before .before) in omega arith
 
 slice-aggregate-trial : tie.Need-slice-aggregate-trial Inv-loop μ-loop
-slice-aggregate-trial c = let k = known (c .before .before .before .before .before .before) in sym (length-take-le (c .before .before .before .before .before .before .before .room .given .0 .0) (c .before .before .sevens .result) (omega (arith, c .before .before .sevens .ensures)))
+slice-aggregate-trial c =
+    let k = known (c .before .before .before .before .before .before) in
+    sym (length-take-le (c .before .before .before .before .before .before .before .room .given .0 .0) (c .before .before .sevens .result)
+    (omega (arith, c .before .before .sevens .ensures)))
 
 trial-requires : tie.Need-trial-requires Inv-loop μ-loop
 trial-requires c κs = search needs
@@ -95,7 +102,7 @@ texts-spec =
     put-requires
     returns
     enum-known-room
-    put-number-requires
+    put-word-requires
     slice-aggregate-put-2
     put-requires-2
     sevens-requires

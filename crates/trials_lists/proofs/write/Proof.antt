@@ -13,7 +13,9 @@ use Rattle.trials_lists.proofs.write.Tie as tie
 fits : (c : tie.After-known-told) → c .before .len .given .0 .0 ≤ length (c .before .before .before .before .before .before .before .before .before .args .out .now)
 fits c =
     let a = c .before .before .before .before .before .before .before .before .before .args in
-    write-fits (a .rows .now) (a .out .now) (c .before .len .given .0 .0) _ (subst (λ (w : Written). WritePromise (a .rows .now) (a .out .now) w (c .before .before .before .before .before .write-list .last .1 .0)) (c .before .len .given .1) (c .before .before .before .before .before .write-list .ensures))
+    write-fits (a .rows .now) (a .out .now) (c .before .len .given .0 .0) _
+    (subst (λ (w : Written). WritePromise (a .rows .now) (a .out .now) w (c .before .before .before .before .before .write-list .last .1 .0)) (c .before .len .given .1)
+    (c .before .before .before .before .before .write-list .ensures))
 
 write-list-requires : tie.Need-write-list-requires
 write-list-requires c κs = search needs

@@ -22,7 +22,9 @@ array-borrow-prefix-enough : tie.Need-array-borrow-prefix-enough
 array-borrow-prefix-enough c = search needs
 
 slice-aggregate-write-2 : tie.Need-slice-aggregate-write-2
-slice-aggregate-write-2 c = sym (length-take-le (c .before .before .before .before .write .result) (c .before .dots2 .result) (omega (arith, c .before .before .before .before .write .ensures, c .before .dots2 .ensures, c .before .before .before .before .before .before .dots .ensures)))
+slice-aggregate-write-2 c =
+    sym (length-take-le (c .before .before .before .before .write .result) (c .before .dots2 .result)
+    (omega (arith, c .before .before .before .before .write .ensures, c .before .dots2 .ensures, c .before .before .before .before .before .before .dots .ensures)))
 
 write-requires-2 : tie.Need-write-requires-2
 write-requires-2 c κs = search needs
@@ -37,7 +39,14 @@ array-borrow-prefix-short : tie.Need-array-borrow-prefix-short
 array-borrow-prefix-short c = search needs
 
 slice-aggregate-write-3 : tie.Need-slice-aggregate-write-3
-slice-aggregate-write-3 c = sym (length-take-le _ (c .before .dots3 .result) (omega (arith, c .before .before .before .before .before .before .before .before .write .ensures, c .before .dots3 .ensures, c .before .before .before .before .before .before .before .before .before .before .dots .ensures)))
+slice-aggregate-write-3 c =
+    sym (length-take-le _ (c .before .dots3 .result)
+    (omega (
+      arith,
+      c .before .before .before .before .before .before .before .before .write .ensures,
+      c .before .dots3 .ensures,
+      c .before .before .before .before .before .before .before .before .before .before .dots .ensures,
+    )))
 
 write-requires-3 : tie.Need-write-requires-3
 write-requires-3 c κs = search needs

@@ -41,7 +41,11 @@ returns-2 : tie.Need-returns-2
 returns-2 c = search needs
 
 returns-3 : tie.Need-returns-3
-returns-3 c = within-earlier (c .before .before .before .before .before .before .before .before .before .args .at) (c .before .before .before .before .before .before .before .line-end .result + 1) (length (c .before .before .before .before .before .before .before .before .before .args .file .now)) (c .find-texts .result) (omega (arith, c .before .before .before .before .before .before .before .line-end .ensures .0)) (c .find-texts .ensures)
+returns-3 c =
+    within-earlier (c .before .before .before .before .before .before .before .before .before .args .at)
+    (c .before .before .before .before .before .before .before .line-end .result + 1)
+    (length (c .before .before .before .before .before .before .before .before .before .args .file .now)) (c .find-texts .result)
+    (omega (arith, c .before .before .before .before .before .before .before .line-end .ensures .0)) (c .find-texts .ensures)
 
 pub find-spec : {M : Type 1} → statement M
 find-spec =

@@ -19,7 +19,9 @@ abbrev μ-loop : tie.MeasureT-loop
 known : (c : tie.After-known-told Inv-loop μ-loop) →
     let r = c .before .room .given .0 in
     Within (c .before .before .before .before .before .loop .at) (length (c .before .before .before .before .before .before .before .args .file .now)) (Both (r .0) (r .1 .0) (r .1 .1 .0) (r .1 .1 .1 .0))
-known c = subst (Within (c .before .before .before .before .before .loop .at) (length (c .before .before .before .before .before .before .before .args .file .now))) (c .before .room .given .1) (c .before .before .before .find .ensures)
+known c =
+    subst (Within (c .before .before .before .before .before .loop .at) (length (c .before .before .before .before .before .before .before .args .file .now)))
+    (c .before .room .given .1) (c .before .before .before .find .ensures)
 
 loop-holds : tie.Need-loop-holds Inv-loop μ-loop
 loop-holds c = search needs
@@ -42,8 +44,8 @@ returns c = search needs
 enum-known-room : tie.Need-enum-known-room Inv-loop μ-loop
 enum-known-room c = search needs
 
-print-decimal-requires : tie.Need-print-decimal-requires Inv-loop μ-loop
-print-decimal-requires c κs = search needs
+put-word-requires : tie.Need-put-word-requires Inv-loop μ-loop
+put-word-requires c κs = search needs
 
 slice-aggregate-put-2 : tie.Need-slice-aggregate-put-2 Inv-loop μ-loop
 slice-aggregate-put-2 c = search needs
@@ -76,7 +78,10 @@ array-borrow-prefix-lent : tie.Need-array-borrow-prefix-lent Inv-loop μ-loop
 array-borrow-prefix-lent c = let k = known (c .before .before .before .before .before .before) in omega arith
 
 slice-aggregate-trial : tie.Need-slice-aggregate-trial Inv-loop μ-loop
-slice-aggregate-trial c = let k = known (c .before .before .before .before .before .before .before) in sym (length-take-le (c .before .before .before .before .before .before .before .before .room .given .0 .0) (c .before .before .before .unset .result) (omega (arith, c .before .before .before .unset .ensures)))
+slice-aggregate-trial c =
+    let k = known (c .before .before .before .before .before .before .before) in
+    sym (length-take-le (c .before .before .before .before .before .before .before .before .room .given .0 .0) (c .before .before .before .unset .result)
+    (omega (arith, c .before .before .before .unset .ensures)))
 
 trial-requires : tie.Need-trial-requires Inv-loop μ-loop
 trial-requires c κs = search needs
@@ -106,7 +111,7 @@ pairs-spec =
     put-requires
     returns
     enum-known-room
-    print-decimal-requires
+    put-word-requires
     slice-aggregate-put-2
     put-requires-2
     unset-requires

@@ -30,7 +30,10 @@ slice-reshare-prefix-written : tie.Need-slice-reshare-prefix-written
 slice-reshare-prefix-written c = search needs
 
 slice-aggregate-written : tie.Need-slice-aggregate-written
-slice-aggregate-written c = sym (length-take-le (c .before .count-set .result) (c .before .before .before .before .before .before .before .before .before .before .before .before .before .check-sheet .last .1 .1 .0) (c .before .count-set .ensures))
+slice-aggregate-written c =
+    sym (length-take-le (c .before .count-set .result)
+    (c .before .before .before .before .before .before .before .before .before .before .before .before .before .check-sheet .last .1 .1 .0)
+    (c .before .count-set .ensures))
 
 written-requires : tie.Need-written-requires
 written-requires c κs = search needs

@@ -14,14 +14,16 @@ numbers-of-requires c κs = search needs
 put-written-requires : tie.Need-put-written-requires
 put-written-requires c κs = search needs
 
-put-kept-requires : tie.Need-put-kept-requires
-put-kept-requires c κs = search needs
+put-kept-bytes-requires : tie.Need-put-kept-bytes-requires
+put-kept-bytes-requires c κs = search needs
 
 slice-reshare-prefix-put : tie.Need-slice-reshare-prefix-put
 slice-reshare-prefix-put c = search needs
 
 slice-aggregate-put : tie.Need-slice-aggregate-put
-slice-aggregate-put c = sym (length-take-le (c .before .before .before .before .before .before .numbers-of .result .length) (c .before .before .before .before .before .before .before .before .before .write-sheet .last .1 .0) (c .before .if2 .taken))
+slice-aggregate-put c =
+    sym (length-take-le (c .before .before .before .before .before .before .numbers-of .result .length)
+    (c .before .before .before .before .before .before .before .before .before .write-sheet .last .1 .0) (c .before .if2 .taken))
 
 put-requires : tie.Need-put-requires
 put-requires c κs = search needs
@@ -51,7 +53,7 @@ write-spec =
     write-sheet-requires
     numbers-of-requires
     put-written-requires
-    put-kept-requires
+    put-kept-bytes-requires
     slice-reshare-prefix-put
     slice-aggregate-put
     put-requires

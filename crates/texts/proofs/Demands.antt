@@ -1,0 +1,122 @@
+-- WHAT THE ANSWERS TO TEXTS MEAN. Read this file first. `ReadPromise s old a new` (lists) and `CheckPromise list s old a new` (sheets) are what the calls
+-- are proved to meet: a is the answer, `old` what was lent, `new` what it holds afterwards. Each theorem says what follows from them, for every text and
+-- every lent memory, over the texts' lines as they stand; no reading is in the words that it is said with. They are in specs/:
+--
+--   ListOf most longest s n rows          (Listed)      : the text s is a list of n entries, and the n rows are its clashes
+--   ListRefused most longest s room f k   (ListFaults)  : the text s is refused with the number f and the line k
+--   SheetOf longest n clash s k c         (Sheets)      : the sheet s is the text of c, a clash-free division of n entries into k groups
+--   SheetRefused longest n clash s f k    (SheetFaults) : the sheet s is refused with the number f and the line k
+--
+-- Numbers of faults are the table's (crate refusals). proofs/ReadCalls.antt and CheckCalls.antt have the same for any limits. Assumes nothing.
+use mathlib.Core.Path.{_≡_}
+use mathlib.Core.Bool.{Bool}
+use mathlib.Core.List.{List, _++_}
+use Prim.Native.Nat.{ℕ, _≤_, _<_}
+use native.Mathlib.Omega.{arith}
+use lib.ListN.{length, take, drop}
+use Rattle.refusals.specs.Table.{numberOf}
+use Rattle.refusals.specs.declared.Refusal.the-variants.{Room}
+use Rattle.clashes.specs.Matrix.{matrix}
+use Rattle.lists.specs.Promise.{refusalOf as listRefusal, readNumbers, ReadPromise}
+use Rattle.lists.specs.declared.Fault.{Fault}
+use Rattle.lists.specs.declared.Reading.{Reading}
+use Rattle.lists.specs.declared.Reading.the-variants.{Read, Refused as Unreadable}
+use Rattle.sheets.specs.Promise.{refusalOf as sheetRefusal, theList, theSheet, numbersOf, CheckPromise}
+use Rattle.sheets.specs.declared.SheetFault.{SheetFault}
+use Rattle.sheets.specs.declared.Checked.{Checked}
+use Rattle.sheets.specs.declared.Checked.the-variants.{Accepted, Unread, Short, Refused}
+use Rattle.texts.specs.Listed.{ListOf}
+use Rattle.texts.specs.ListFaults.{ListRefused}
+use Rattle.texts.specs.Sheets.{SheetOf}
+use Rattle.texts.specs.SheetFaults.{SheetRefused}
+use Rattle.texts.proofs.ListMeaning as lists
+use Rattle.texts.proofs.SheetMeaning as sheets
+use Rattle.texts.proofs.ReadCalls as reading
+use Rattle.texts.proofs.CheckCalls as checking
+
+-- ---- reading a clash text
+
+module _ (s old new : List ℕ) where
+  -- Accepted with n: the text is a list of n entries, whose clashes are those of the first n lent rows; the others are as they were.
+  pub list-accepted : (n : ℕ) → ReadPromise s old (Read n) new → ListOf 64 65536 s n (take n new) × (n ≤ length old) × (drop n new ≡ drop n old)
+  list-accepted = reading.read-accepted 64 65536 s old new
+
+  -- Every list for which there is room is accepted, and its rows are stored.
+  pub list-taken : (a : Reading) → ReadPromise s old a new → (n : ℕ) (rows : List ℕ) → ListOf 64 65536 s n rows → n ≤ length old
+      → (a ≡ Read n) × (new ≡ rows ++ drop n old)
+  list-taken = reading.read-taken 64 65536 s old new
+
+  -- Refused: line k has this fault, no line before it has any, and none that comes before it in the order is in line k; or so at the end; or 18. Nothing
+  -- lent is written.
+  pub list-refused : (f : Fault) (k : ℕ) → ReadPromise s old (Unreadable f k) new
+      → ListRefused 64 65536 s (length old) (numberOf (listRefusal f)) k × (new ≡ old)
+  list-refused = reading.read-refused 64 65536 s old new
+
+  -- Every text that the words refuse is refused with that number and that line.
+  pub list-returned : (a : Reading) → ReadPromise s old a new → (f k : ℕ) → ListRefused 64 65536 s (length old) f k
+      → readNumbers a ≡ record { number = f; place = k; size = 0 }
+  list-returned = reading.read-returned 64 65536 s old new
+
+-- The words leave one list, or one refusal and one line, and not both.
+module _ (most longest : ℕ) (s : List ℕ) where
+  pub one-list : (n m : ℕ) (rows cols : List ℕ) → ListOf most longest s n rows → ListOf most longest s m cols → (n ≡ m) × (rows ≡ cols)
+  one-list = lists.list-one most longest s
+
+  pub one-list-refusal : (room f g k j : ℕ) → ListRefused most longest s room f k → ListRefused most longest s room g j → (f ≡ g) × (k ≡ j)
+  one-list-refusal = lists.list-refusal-one most longest s
+
+  pub list-or-refusal : (n : ℕ) (rows : List ℕ) → ListOf most longest s n rows → (room : ℕ) → n ≤ room → (f k : ℕ) → ¬ ListRefused most longest s room f k
+  list-or-refusal = lists.list-unrefused most longest s
+
+  -- With as many rows lent as a list can have entries, 17 cannot arise.
+  pub never-room : (k : ℕ) → ¬ ListRefused most longest s most (numberOf Room) k
+  never-room = lists.never-room most longest s
+
+-- ---- checking a sheet against a clash text
+
+module _ (list s old new : List ℕ) where
+  -- Accepted with k: the first n lent bytes are a division, clash-free for the list that was read, into k groups, and the sheet is its text, byte for
+  -- byte; the other bytes are as they were.
+  pub check-accepted : (k : ℕ) → CheckPromise list s old (Accepted k) new
+      → (n : ℕ) × (rows : List ℕ) × ListOf 64 65536 list n rows × (n ≤ length old) × SheetOf 65536 n (matrix rows) s k (take n new) × (drop n new ≡ drop n old)
+  check-accepted = checking.check-accepted 64 65536 list s old new
+
+  -- Not accepted: the clash text is refused, the colour bytes are fewer than n, or the sheet is refused, in this order. Nothing lent is written.
+  pub check-unread : (f : Fault) (k : ℕ) → CheckPromise list s old (Unread f k) new → ListRefused 64 65536 list 64 (numberOf (listRefusal f)) k × (new ≡ old)
+  check-unread = checking.check-unread 64 65536 list s old new
+
+  pub check-short : CheckPromise list s old Short new → (n : ℕ) × (rows : List ℕ) × ListOf 64 65536 list n rows × (length old < n) × (new ≡ old)
+  check-short = checking.check-short 64 65536 list s old new
+
+  pub check-refused : (f : SheetFault) (k : ℕ) → CheckPromise list s old (Refused f k) new
+      → (n : ℕ) × (rows : List ℕ) × ListOf 64 65536 list n rows × (n ≤ length old) × SheetRefused 65536 n (matrix rows) s (numberOf (sheetRefusal f)) k × (new ≡ old)
+  check-refused = checking.check-refused 64 65536 list s old new
+
+  module _ (a : Checked) (p : CheckPromise list s old a new) where
+    -- Each of these wherever the words say so, with that number, that line, and which text is at fault.
+    pub check-unread-so : (f k : ℕ) → ListRefused 64 65536 list 64 f k → numbersOf a ≡ record { number = f; line = k; groups = 0; text = theList }
+    check-unread-so = checking.check-unread-so 64 65536 list s old new a p
+
+    module _ (n : ℕ) (rows : List ℕ) (l : ListOf 64 65536 list n rows) where
+      pub check-short-so : length old < n → a ≡ Short
+      check-short-so = checking.check-short-so 64 65536 list s old new a p n rows l
+
+      pub check-refused-so : n ≤ length old → (f k : ℕ) → SheetRefused 65536 n (matrix rows) s f k
+          → numbersOf a ≡ record { number = f; line = k; groups = 0; text = theSheet }
+      check-refused-so = checking.check-refused-so 64 65536 list s old new a p n rows l
+
+      -- Every sheet that is the text of a clash-free division is accepted, with it.
+      pub check-taken : n ≤ length old → (k : ℕ) (c : List ℕ) → SheetOf 65536 n (matrix rows) s k c → (a ≡ Accepted k) × (new ≡ c ++ drop n old)
+      check-taken = checking.check-taken 64 65536 list s old new a p n rows l (omega (arith, l .few))
+
+-- The words leave one division, or one refusal and one line, and not both.
+module _ (longest n : ℕ) (clash : ℕ → ℕ → Bool) (s : List ℕ) where
+  pub one-sheet-refusal : (f g k j : ℕ) → SheetRefused longest n clash s f k → SheetRefused longest n clash s g j → (f ≡ g) × (k ≡ j)
+  one-sheet-refusal = sheets.sheet-refusal-one n clash longest s
+
+  -- a number in a text has at most 7 digits
+  pub one-division : n < 10000000 → (k m : ℕ) (c d : List ℕ) → SheetOf longest n clash s k c → SheetOf longest n clash s m d → (k ≡ m) × (c ≡ d)
+  one-division = sheets.sheet-one n clash longest s
+
+  pub sheet-or-refusal : n < 10000000 → (k : ℕ) (c : List ℕ) → SheetOf longest n clash s k c → (f j : ℕ) → ¬ SheetRefused longest n clash s f j
+  sheet-or-refusal = sheets.sheet-unrefused n clash longest s

@@ -1,0 +1,55 @@
+-- The refusals of a clash text in document 01's words, over its lines as they stand.
+--
+--   PBefore t k n        : a p line that says n entries stands before line k
+--   Has most t room k f  : line k of the lines t has the fault numbered f, where so many rows are lent and a list may have `most` entries
+--   listOrder            : the order within a line
+--   Lacks t f            : at the end, the lines t have the fault numbered f
+--   ListRefused most longest s room f k : the clash text s is refused with the number f and the line k
+--
+-- Assumes nothing.
+use Prim.Native.Nat.{ℕ, _<_}
+use mathlib.Core.Path.{_≡_}
+use mathlib.Core.Logic.{_⊎_}
+use mathlib.Core.List.{List, [], _∷_}
+use lib.Dec.{eqb}
+use Rattle.refusals.specs.Table.{numberOf, If}
+use Rattle.refusals.specs.declared.Refusal.the-variants.{Line, Headless, Second, Size, Vertex, Loop, Count, Room}
+use Rattle.lines.specs.Text.{Text, linesOf}
+use Rattle.lists.specs.declared.Shape.the-variants.{P, E, Bad}
+use Rattle.texts.specs.Faults.{Unended, Outside, Refusal}
+use Rattle.texts.specs.Listed.{At, edgeLines}
+
+abbrev pub PBefore : Text → ℕ → ℕ → Type 0
+PBefore t k n = (j m : ℕ) × (j < k) × At t j (P n m)
+
+abbrev pub Has : ℕ → Text → ℕ → ℕ → ℕ → Type 0
+Has most t room k f =
+    -- line of no permitted shape, or last line without its line feed
+    If (eqb f (numberOf Line)) (At t k Bad ⊎ Unended t k)
+    -- an e line before any p line
+    (If (eqb f (numberOf Headless)) (((u v : ℕ) × At t k (E u v)) × ((n : ℕ) → ¬ PBefore t k n))
+    -- a second p line
+    (If (eqb f (numberOf Second)) (((n m : ℕ) × At t k (P n m)) × ((n : ℕ) × PBefore t k n))
+    -- p line with over 64 entries
+    (If (eqb f (numberOf Size)) ((n m : ℕ) × At t k (P n m) × (most < n))
+    -- fewer lent rows than n
+    (If (eqb f (numberOf Room)) ((n m : ℕ) × At t k (P n m) × (room < n))
+    -- an end outside 1 to n
+    (If (eqb f (numberOf Vertex)) ((u v n : ℕ) × At t k (E u v) × PBefore t k n × (Outside n u ⊎ Outside n v))
+    -- both ends equal
+    (If (eqb f (numberOf Loop)) ((u : ℕ) × At t k (E u u))
+    ⊥))))))
+
+abbrev pub listOrder : List ℕ
+listOrder = 10 ∷ 11 ∷ 12 ∷ 13 ∷ 17 ∷ 14 ∷ 15 ∷ []
+
+abbrev pub Lacks : Text → ℕ → Type 0
+Lacks t f =
+    -- no p line at all
+    If (eqb f (numberOf Headless)) ((k n m : ℕ) → ¬ At t k (P n m))
+    -- number of e lines is not the stated one
+    (If (eqb f (numberOf Count)) ((k n m : ℕ) × At t k (P n m) × ¬ (edgeLines t ≡ m))
+    ⊥)
+
+abbrev pub ListRefused : ℕ → ℕ → List ℕ → ℕ → ℕ → ℕ → Type 0
+ListRefused most longest s room f k = Refusal longest s (Has most (linesOf s) room) listOrder (Lacks (linesOf s)) f k
