@@ -71,7 +71,26 @@ enter-claims t = (counted-reads.Asked, counted-reads.Learnt, reaches-reads.Asked
 
 -- what split knows of its callees
 abbrev split-claims : ℕ → split-lts.Claims
-split-claims t = (merge-rows-reads.Asked, merge-rows-reads.Learnt, rename-reads.Asked, rename-reads.Learnt, without-reads.Asked, without-reads.Learnt, enter-below t, enter.Post, separate-rows-reads.Asked, separate-rows-reads.Learnt, counted-reads.Asked, counted-reads.Learnt, reaches-reads.Asked, reaches-reads.Learnt, choose-among-reads.Asked, choose-among-reads.Learnt, improved-reads.Asked, improved-reads.Learnt)
+split-claims t = (
+  merge-rows-reads.Asked,
+  merge-rows-reads.Learnt,
+  rename-reads.Asked,
+  rename-reads.Learnt,
+  without-reads.Asked,
+  without-reads.Learnt,
+  enter-below t,
+  enter.Post,
+  separate-rows-reads.Asked,
+  separate-rows-reads.Learnt,
+  counted-reads.Asked,
+  counted-reads.Learnt,
+  reaches-reads.Asked,
+  reaches-reads.Learnt,
+  choose-among-reads.Asked,
+  choose-among-reads.Learnt,
+  improved-reads.Asked,
+  improved-reads.Learnt,
+)
 
 -- ---- enter
 

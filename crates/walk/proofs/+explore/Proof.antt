@@ -56,7 +56,24 @@ explore-μ-loop n live rows₀ names t₀ rows t = open-pairs (node n live rows 
 
 -- what explore knows of its callees
 abbrev explore-claims : ℕ → explore-lts.Claims
-explore-claims t = (counted-reads.Asked, counted-reads.Learnt, choose-among-reads.Asked, choose-among-reads.Learnt, compared-reads.Asked, compared-reads.Learnt, merge-rows-reads.Asked, merge-rows-reads.Learnt, rename-reads.Asked, rename-reads.Learnt, without-reads.Asked, without-reads.Learnt, explore-below t, explore.Post, separate-rows-reads.Asked, separate-rows-reads.Learnt)
+explore-claims t = (
+  counted-reads.Asked,
+  counted-reads.Learnt,
+  choose-among-reads.Asked,
+  choose-among-reads.Learnt,
+  compared-reads.Asked,
+  compared-reads.Learnt,
+  merge-rows-reads.Asked,
+  merge-rows-reads.Learnt,
+  rename-reads.Asked,
+  rename-reads.Learnt,
+  without-reads.Asked,
+  without-reads.Learnt,
+  explore-below t,
+  explore.Post,
+  separate-rows-reads.Asked,
+  separate-rows-reads.Learnt,
+)
 
 -- the node where a turn begins
 abbrev turning : (t : ℕ) → explore-lts.At-loop (explore-claims t) (explore-at t) explore.Post explore-Inv-loop explore-μ-loop → Node
@@ -89,15 +106,21 @@ fewer t w = node (w .before .before .before .before .before .before .before .bef
 explore-fewer : (t : ℕ) (w : explore-lts.After-without (explore-claims t) (explore-at t) explore.Post explore-Inv-loop explore-μ-loop)
     → let g = turning t (w .before .before .before .before .before .before .before .before .before .before .before .before .before .before) in let k = w .before .before .before .before .before .before .before .before .c .given in Becomes g (fewer t w) (merge (k .0 .0) (k .0 .1 .0) (view g))
 explore-fewer t w =
-    w .before .before .before .merge-rows .ensures (turning t (w .before .before .before .before .before .before .before .before .before .before .before .before .before .before)) (w .without .result) (w .before .rename .last .0) (explore-pair t (w .before .before .before .before .before .before .before)) (w .without .ensures) (w .before .rename .ensures)
+    let m = w .before .before .before in
+    m .merge-rows .ensures (turning t (m .before .before .before .before .before .before .before .before .before .before .before)) (w .without .result)
+    (w .before .rename .last .0) (explore-pair t (m .before .before .before .before)) (w .without .ensures) (w .before .rename .ensures)
 
 -- the separated node
 abbrev parted : (t : ℕ) → explore-lts.After-separate-rows (explore-claims t) (explore-at t) explore.Post explore-Inv-loop explore-μ-loop → Node
 parted t c = let a = c .before .before .before .before .before .before .before .before .before .before .before .before .before .before .before .before .before .before .before .before .before in node (a .args .n) (a .args .live) (c .separate-rows .last .0) (a .args .names .now)
 
 explore-parted : (t : ℕ) (c : explore-lts.After-separate-rows (explore-claims t) (explore-at t) explore.Post explore-Inv-loop explore-μ-loop)
-    → let g = turning t (c .before .before .before .before .before .before .before .before .before .before .before .before .before .before .before .before .before .before .before .before) in let k = c .before .before .before .before .before .before .before .before .before .before .before .before .before .before .c .given in Becomes g (parted t c) (separate (k .0 .0) (k .0 .1 .0) (view g))
-explore-parted t c = c .separate-rows .ensures (turning t (c .before .before .before .before .before .before .before .before .before .before .before .before .before .before .before .before .before .before .before .before)) (explore-pair t (c .before .before .before .before .before .before .before .before .before .before .before .before .before))
+    → let h = c .before .before .before .before .before .before .before .before .before .before .before .before .before .before in
+    let g = turning t (h .before .before .before .before .before .before) in
+    Becomes g (parted t c) (separate (h .c .given .0 .0) (h .c .given .0 .1 .0) (view g))
+explore-parted t c =
+    let h = c .before .before .before .before .before .before .before .before .before .before .before .before .before in
+    c .separate-rows .ensures (turning t (h .before .before .before .before .before .before .before)) (explore-pair t h)
 
 explore-loop-holds : (t : ℕ) → explore-lts.Need-loop-holds (explore-claims t) (explore-at t) explore.Post explore-Inv-loop explore-μ-loop
 explore-loop-holds t c = record { ready = c .pre .1; lives = refl; rest = λ r f. f }
@@ -181,7 +204,8 @@ explore-loop-less : (t : ℕ) → explore-lts.Need-loop-less (explore-claims t) 
 explore-loop-less t c =
     let h = c .before .before .before .before .before .before .before .before .before .before .before .before .before in
     let k = h .before .c .given in
-    separated-falls plain (turning t (c .before .before .before .before .before .before .before .before .before .before .before .before .before .before .before .before .before .before .before .before)) (k .0 .0) (k .0 .1 .0) (h .before .before .before .before .before .before .counted .result) (explore-ready-at t h) (parted t c) (explore-parted t c)
+    let e = h .before .before .before .before .before .before in
+    separated-falls plain (turning t (e .before)) (k .0 .0) (k .0 .1 .0) (e .counted .result) (explore-ready-at t h) (parted t c) (explore-parted t c)
 
 explore-loop-again : (t : ℕ) → explore-lts.Need-loop-again (explore-claims t) (explore-at t) explore.Post explore-Inv-loop explore-μ-loop
 explore-loop-again t c =
