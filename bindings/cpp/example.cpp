@@ -65,7 +65,8 @@ int main(int count, char **names) {
         if (count == 2) {
             std::cout << sheet_of(take(names[1]));
         } else if (count == 3) {
-            std::cout << "groups " << groups_of(take(names[1]), take(names[2])) << '\n';
+            size_t k = groups_of(take(names[1]), take(names[2]));
+            std::cout << "groups " << k << '\n';
         } else {
             throw std::runtime_error("usage: example LIST [SHEET]");
         }
