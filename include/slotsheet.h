@@ -9,12 +9,15 @@
    said here, and a refused call writes nothing. No call keeps a pointer, prints, allocates, or fails otherwise than by its refusal.
 
    What is lent. A lent slice is a pointer and a length in elements (not in bytes), and the pointer is aligned as its type wants. Where the length
-   is 0 the pointer may be NULL or any other, so an empty std::vector is passed as it is; elsewhere it is never NULL. What a call writes (`colours` of a walk or a check, `rows`
-   of slotsheet_read_list, `out` of the writers) must not overlap anything else that is lent to that call. What it only reads may overlap: the
-   list and the sheet of a check may be one text.
+   is 0 the pointer may be NULL or any other, so an empty std::vector is passed as it is; elsewhere it is never NULL. What a call writes (`colours`
+   of a walk or a check, `rows` of slotsheet_read_list, `out` of the writers) must not overlap anything else that is lent to that call. What it
+   only reads may overlap: the list and the sheet of a check may be one text.
 
    Threads. Calls share nothing, so any number of threads may call at once, as long as none writes what another is lent. A call needs less than
-   128 KB of stack, whatever the list (96 KB is too little); a thread made for it is given SLOTSHEET_STACK_BYTES. */
+   128 KB of stack, whatever the list (measured: 112 KB were enough, 104 KB were not); give a thread that is made for it SLOTSHEET_STACK_BYTES.
+
+   The repository's own target/staticlib/libcapi.a has the proved functions alone: there no pointer may be NULL, also where the length is 0, and
+   slotsheet_version, slotsheet_name and slotsheet_sentence are missing. */
 #ifndef SLOTSHEET_H
 #define SLOTSHEET_H
 

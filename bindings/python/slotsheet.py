@@ -179,11 +179,11 @@ def _load():
     """The shared object, with the types of its functions."""
     file = "libslotsheet.so.1"
     named = os.environ.get("SLOTSHEET_LIB")
-    installed = Path(__file__).resolve().parents[3] / "lib" / file if len(Path(__file__).resolve().parents) > 3 else None
+    above = Path(__file__).resolve().parents  # installed: PREFIX/share/slotsheet/python
     if named:
         path = os.path.join(named, file) if os.path.isdir(named) else named
     else:
-        path = str(installed) if installed and installed.is_file() else file
+        path = str(above[3] / "lib" / file) if len(above) > 3 and above[2].name == "share" else file
     try:
         library = ctypes.CDLL(path)
     except OSError as error:
