@@ -20,17 +20,10 @@ use std::fmt;
 /// The C interface itself.
 pub mod raw;
 mod refusal;
+mod table;
 
-pub use refusal::Refusal;
-
-/// The most entries of a list.
-pub const ENTRIES: usize = 64;
-/// The most bytes of a text that is read.
-pub const BYTES: usize = 65_536;
-/// No sheet is longer.
-pub const SHEET_BYTES: usize = 641;
-/// No written list is longer.
-pub const LIST_BYTES: usize = 15_576;
+pub use refusal::Beside;
+pub use table::{Refusal, BYTES, ENTRIES, LIST_BYTES, NODES, SHEET_BYTES, STACK_BYTES, VERSION};
 
 /// A refusal with what is "also returned" beside it: row, line, index or nodes, by document 01's table; 0 where it names nothing.
 #[derive(Clone, Copy, Debug, PartialEq, Eq)]
@@ -62,16 +55,42 @@ pub struct Fault {
     pub refused: Refused,
 }
 
+/// The refusal's sentence for people.
+///
+/// ```
+/// let refused = slotsheet::read_list(b"p edge 2 1\ne 1 1\n", &mut [0; 64]).unwrap_err();
+/// assert_eq!(refused.to_string(), "line 2: here an entry clashes with itself");
+/// ```
 impl fmt::Display for Refused {
     fn fmt(&self, f: &mut fmt::Formatter) -> fmt::Result {
-        write!(f, "refused {} ({:?}) at {}", self.why.number(), self.why, self.place)
+        f.write_str(&self.why.sentence(self.place, b""))
     }
 }
 
+impl fmt::Display for Text {
+    fn fmt(&self, f: &mut fmt::Formatter) -> fmt::Result {
+        f.write_str(if *self == Text::List { "list" } else { "sheet" })
+    }
+}
+
+impl Fault {
+    /// The text at fault and the refusal's sentence, with the entry's number where `shown` is the line that [`fault_line`] gives.
+    ///
+    /// ```
+    /// let (list, sheet) = (b"p edge 2 1\ne 1 2\n", b"groups 1\nsize 2\n1\n2\n");
+    /// let fault = slotsheet::check_sheet(list, sheet, &mut [0; 2]).unwrap_err();
+    /// let shown = slotsheet::fault_line(list, sheet, 2);
+    /// assert_eq!(fault.sentence(shown), "sheet: line 4: entry 2 clashes with an earlier entry of its group");
+    /// ```
+    pub fn sentence(&self, shown: &[u8]) -> String {
+        format!("{}: {}", self.text, self.refused.why.sentence(self.refused.place, shown))
+    }
+}
+
+/// The text at fault and the refusal's sentence for people, which says "the entry on this line" for the entry.
 impl fmt::Display for Fault {
     fn fmt(&self, f: &mut fmt::Formatter) -> fmt::Result {
-        let text = if self.text == Text::List { "list" } else { "sheet" };
-        write!(f, "{text}: {}", self.refused)
+        f.write_str(&self.sentence(b""))
     }
 }
 
