@@ -166,6 +166,11 @@ struct slotsheet_checking slotsheet_check_sheet(const uint8_t *list, size_t list
    nothing. */
 struct slotsheet_part slotsheet_fault_line(const uint8_t *list, size_t list_length, const uint8_t *sheet, size_t sheet_length, size_t room);
 
+/* Writes the very bytes that the program slotsheet prints for a clash text: the sheet of its fewest groups, by a walk of at most SLOTSHEET_NODES
+   nodes, or "refused R line L" and a line feed: 19 where they do not all fit; SLOTSHEET_SHEET_BYTES are enough. Accepted, writes the first
+   `length` bytes; those after stay. */
+struct slotsheet_writing slotsheet_answer(const uint8_t *text, size_t text_length, uint8_t *out, size_t out_length);
+
 #ifdef __cplusplus
 }
 #endif

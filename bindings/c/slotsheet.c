@@ -22,6 +22,7 @@ struct slotsheet_writing slotsheet_proved_write_list(const uint64_t *, size_t, u
 struct slotsheet_writing slotsheet_proved_write_sheet(const uint8_t *, size_t, uint8_t *, size_t);
 struct slotsheet_checking slotsheet_proved_check_sheet(const uint8_t *, size_t, const uint8_t *, size_t, uint8_t *, size_t);
 struct slotsheet_part slotsheet_proved_fault_line(const uint8_t *, size_t, const uint8_t *, size_t, size_t);
+struct slotsheet_writing slotsheet_proved_answer(const uint8_t *, size_t, uint8_t *, size_t);
 
 struct slotsheet_verdict slotsheet_validity(const uint64_t *rows, size_t rows_length) {
     return slotsheet_proved_validity(ROWS(rows));
@@ -62,6 +63,10 @@ struct slotsheet_checking slotsheet_check_sheet(const uint8_t *list, size_t list
 
 struct slotsheet_part slotsheet_fault_line(const uint8_t *list, size_t list_length, const uint8_t *sheet, size_t sheet_length, size_t room) {
     return slotsheet_proved_fault_line(BYTES(list), BYTES(sheet), room);
+}
+
+struct slotsheet_writing slotsheet_answer(const uint8_t *text, size_t text_length, uint8_t *out, size_t out_length) {
+    return slotsheet_proved_answer(BYTES(text), BYTES(out));
 }
 
 const char *slotsheet_version(void) {

@@ -38,6 +38,7 @@ from pathlib import Path
 __all__ = [
     "VERSION", "ENTRIES", "BYTES", "SHEET_BYTES", "LIST_BYTES", "NODES", "STACK_BYTES", "Refused", "Walked", "Checked", "version", "rows_of", "validity",
     "clique_bound", "mycielskian_bound", "fewest", "plain", "read_list", "write_list", "write_sheet", "check_sheet", "fault_line",
+    "answer",
 ]
 
 # tools/bindings writes from here on, from bindings/interface.txt
@@ -169,6 +170,7 @@ _CALLS = {
     "write_sheet": (_Writing, _TEXT + _LENT),
     "check_sheet": (_Checking, _TEXT + _TEXT + _LENT),
     "fault_line": (_Part, _TEXT + _TEXT + [c_size_t]),
+    "answer": (_Writing, _TEXT + _LENT),
     "version": (c_char_p, []),
     "name": (c_char_p, [c_size_t]),
     "sentence": (c_size_t, [c_size_t, c_uint64] + _TEXT + [c_char_p, c_size_t]),
@@ -306,6 +308,20 @@ def write_sheet(colours):
     colours = bytes(list(colours))
     out = (c_uint8 * SHEET_BYTES)()
     said = _library.slotsheet_write_sheet(colours, len(colours), out, SHEET_BYTES)
+    return _answered(said.refusal, said.place, bytes(out[: said.length]).decode("ascii"))
+
+
+def answer(text):
+    """What the program slotsheet prints for a clash text, as str: the sheet of its fewest sittings, or the refusal in a line. Never refused.
+
+    >>> answer("p edge 2 1\\ne 1 2\\n")
+    'groups 2\\nsize 1\\n1\\nsize 1\\n2\\n'
+    >>> answer("p edge 2 1\\ne 1 3\\n")
+    'refused 14 line 2\\n'
+    """
+    text = _text(text)
+    out = (c_uint8 * SHEET_BYTES)()
+    said = _library.slotsheet_answer(text, len(text), out, SHEET_BYTES)
     return _answered(said.refusal, said.place, bytes(out[: said.length]).decode("ascii"))
 
 

@@ -67,6 +67,13 @@ class Calls(unittest.TestCase):
         self.assertEqual(slotsheet.write_sheet([]), "groups 0\n")
         self.assertEqual(slotsheet.check_sheet("p edge 0 0\n", "groups 0\n"), (0, []))
 
+    def test_answer(self):
+        self.assertEqual(slotsheet.answer(""), "refused 11 line 1\n")
+        self.assertEqual(slotsheet.answer("p edge 0 0\n"), "groups 0\n")
+        self.assertEqual(slotsheet.answer(b"c" * 65_537), "refused 18 line 0\n")
+        text = "p edge 5 5\ne 1 2\ne 2 3\ne 3 4\ne 4 5\ne 1 5\n"
+        self.assertEqual(slotsheet.answer(text), slotsheet.write_sheet(slotsheet.fewest(slotsheet.read_list(text)).colours))
+
     def test_sixty_four_entries(self):
         rows = slotsheet.rows_of(64, [(i, j) for i in range(64) for j in range(i)])
         text = slotsheet.write_list(rows)
