@@ -51,7 +51,8 @@ if len(names) != len(refusals) or len(numbers) != len(refusals):
     wrong.append("bindings/interface.txt: a number or a name stands twice")
 
 # The proved table
-proved = dict(re.findall(r"Refusal::(\w+) => (\d+),", text("crates/refusals/src/lib.rt")))
+number = text("crates/refusals/src/lib.rt").split("pub fn number(")[1].split("\n}\n")[0]
+proved = dict(re.findall(r"Refusal::(\w+) => (\d+),", number))
 compare("bindings/interface.txt against crates/refusals", numbers, {name: int(number) for name, number in proved.items()})
 told = {"nothing": "-", "aRow": "row", "theNodes": "nodes", "aLine": "line", "anIndex": "index"}
 table = re.findall(r"^entry (\w+) = row (\d+) (\w+)$", text("crates/refusals/specs/Table.antt"), re.M)
