@@ -149,7 +149,7 @@ fn random_lists_against_the_second_program() {
 fn long_lists_against_the_second_program() {
     let mut numbers = Numbers(23);
     let mut ended = 0;
-    for percent in (0..=100).step_by(4) {
+    for percent in (0..=100).step_by(100 / cases(25)) {
         for n in [45, 55, 63, 64] {
             let rows = random(&mut numbers, n, percent);
             if let Some(walked) = compared(&rows, 4_000) {
@@ -158,6 +158,6 @@ fn long_lists_against_the_second_program() {
             }
         }
     }
-    assert!(ended >= 20, "{ended}");
+    assert!(ended >= cases(20), "{ended}");
     assert_eq!(described::bounds(&complete(64)), Ok((64, 64)));
 }
