@@ -147,6 +147,14 @@ module _ (t : RefT (List ℕ)) where
       go true f = absurd (subst T (sym e ∙ reader-ends i ∙ ap not f) tt)
       go false f = let l = ltb-false i lines f in place-over (now t) i l ∙ sym (place-over (now t) k (omega arith))
 
+  -- where it is not, the next reader is nearer to the end
+  pub reader-nearer : (k : ℕ) → atEnd (after t k) ≡ false → length (now t) - placeOf (now t) (suc k) < length (now t) - placeOf (now t) k
+  reader-nearer k e = go (ltb k lines) refl
+    where
+      go : (x : Bool) → ltb k lines ≡ x → length (now t) - placeOf (now t) (suc k) < length (now t) - placeOf (now t) k
+      go true f = let l = place-lt (now t) k (ltb-true k lines f) in omega (arith, next-after (now t) (placeOf (now t) k) l)
+      go false f = absurd (subst T (sym (ap not f) ∙ sym (reader-ends k) ∙ e) tt)
+
   -- of a text that can be lent, the number is the line's, from 1, and does not reach the largest
   module _ (lent : length (now t) < 2 ^ 63) where
     pub reader-stands : (k : ℕ) → k ≤ lines → after t k ≡ record { text = t; at = placeOf (now t) k; line = k + 1 }
