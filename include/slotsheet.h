@@ -1,13 +1,23 @@
-/* Fewest sittings from a clash list: the proved library, called from C.
+/* Fewest sittings from a clash list: the proved library, called from C, C++ and the languages that call C.
 
-   rt staticlib capi            makes target/staticlib/libcapi.a
-   cc -Iinclude yours.c target/staticlib/libcapi.a
+       tools/install PREFIX         puts this header, libslotsheet.a, libslotsheet.so and slotsheet.pc below PREFIX
+       cc yours.c $(pkg-config --cflags --libs slotsheet)
 
    A list of n entries (0 to 64) is n rows; bit j of rows[i] says that entries i and j clash. Groups are numbered from 0 by smallest member.
-   An answer whose `refusal` is 0 is accepted. Every number that a comment here does not name is 0. Nothing lent is written but what is said
-   here, and a refused call writes nothing. A lent slice is a pointer and a length in elements; the pointer is never NULL and aligned as its
-   type wants, also where the length is 0. What is written must not overlap anything else lent. No call keeps a pointer, prints, allocates
-   or fails otherwise than by its refusal. */
+
+   Answers. An answer whose `refusal` is 0 is accepted. Every number that a comment here does not name is 0. Nothing lent is written but what is
+   said here, and a refused call writes nothing. No call keeps a pointer, prints, allocates, or fails otherwise than by its refusal.
+
+   What is lent. A lent slice is a pointer and a length in elements (not in bytes), and the pointer is aligned as its type wants. Where the length
+   is 0 the pointer may be NULL or any other, so an empty std::vector is passed as it is; elsewhere it is never NULL. What a call writes (`colours`
+   of a walk or a check, `rows` of slotsheet_read_list, `out` of the writers) must not overlap anything else that is lent to that call. What it
+   only reads may overlap: the list and the sheet of a check may be one text.
+
+   Threads. Calls share nothing, so any number of threads may call at once, as long as none writes what another is lent. A call needs less than
+   128 KB of stack, whatever the list (measured: 112 KB were enough, 104 KB were not); give a thread that is made for it SLOTSHEET_STACK_BYTES.
+
+   The repository's own target/staticlib/libcapi.a has the proved functions alone: there no pointer may be NULL, also where the length is 0, and
+   slotsheet_version, slotsheet_name and slotsheet_sentence are missing. */
 #ifndef SLOTSHEET_H
 #define SLOTSHEET_H
 
@@ -18,18 +28,23 @@
 extern "C" {
 #endif
 
-#define SLOTSHEET_ENTRIES 64        /* the most entries of a list */
-#define SLOTSHEET_BYTES 65536       /* the most bytes of a text that is read */
-#define SLOTSHEET_SHEET_BYTES 641   /* no sheet is longer */
-#define SLOTSHEET_LIST_BYTES 15576  /* no written list is longer */
+/* tools/bindings writes from here on, from bindings/interface.txt */
+#define SLOTSHEET_VERSION "1.1.0"
 
-/* Numbers given for a refusal; "row", "line", "index" or "nodes" where one of them is returned too. */
+#define SLOTSHEET_ENTRIES 64          /* the most entries of a list */
+#define SLOTSHEET_BYTES 65536         /* the most bytes of a text that is read */
+#define SLOTSHEET_SHEET_BYTES 641     /* no sheet is longer */
+#define SLOTSHEET_LIST_BYTES 15576    /* no written list is longer */
+#define SLOTSHEET_NODES 1000000       /* the nodes that the walk of the program slotsheet may enter */
+#define SLOTSHEET_STACK_BYTES 262144  /* the stack that a thread needs to make any call, with room to spare */
+
+/* Numbers given for a refusal, and what is returned beside it. */
 enum slotsheet_refusal {
-    SLOTSHEET_ACCEPTED = 0,
+    SLOTSHEET_ACCEPTED = 0,     /* no refusal */
     SLOTSHEET_MANY = 1,         /* over 64 rows, or colour bytes when writing a sheet */
     SLOTSHEET_STRAY = 2,        /* a bit at n or above: lowest such row */
     SLOTSHEET_SELF = 3,         /* row i has bit i: lowest such row */
-    SLOTSHEET_ONE_SIDED = 4,    /* row i has bit j, row j lacks bit i: lowest such i as row */
+    SLOTSHEET_ONE_SIDED = 4,    /* row i has bit j, row j lacks bit i: lowest such i */
     SLOTSHEET_SHORT = 5,        /* colour buffer under n bytes */
     SLOTSHEET_BUDGET = 6,       /* the walk has more nodes than the budget: nodes = budget */
     SLOTSHEET_DEEP = 7,         /* over 64 levels of merging */
@@ -45,7 +60,7 @@ enum slotsheet_refusal {
     SLOTSHEET_FULL = 19,        /* output buffer too small for the whole text */
     SLOTSHEET_SHEET_LINE = 30,  /* wrong shape for this place, or last line unended: line */
     SLOTSHEET_MEMBER = 31,      /* member outside 1 to n: line */
-    SLOTSHEET_ORDER = 32,       /* not above the member, or the group's first, before it: line */
+    SLOTSHEET_ORDER = 32,       /* not above the member before it in its group, or a group's first not above the previous group's first: line */
     SLOTSHEET_TWICE = 33,       /* member stands in an earlier group: line */
     SLOTSHEET_CLASH = 34,       /* member clashes with an earlier one of its group: line */
     SLOTSHEET_ENDS = 35,        /* sheet empty, or ends before its counts are met: line */
@@ -53,6 +68,13 @@ enum slotsheet_refusal {
     SLOTSHEET_EXTRA = 37,       /* a line after the last group: line */
     SLOTSHEET_COLOURS = 38      /* colour bytes not numbered by first use from 0: lowest index */
 };
+
+enum slotsheet_text {
+    SLOTSHEET_NONE = 0,  /* neither text is at fault */
+    SLOTSHEET_LIST = 1,  /* the clash list */
+    SLOTSHEET_SHEET = 2  /* the sitting sheet */
+};
+/* tools/bindings writes to here */
 
 struct slotsheet_verdict {
     size_t refusal;
@@ -85,8 +107,6 @@ struct slotsheet_writing {
     size_t length;    /* of the text */
 };
 
-enum slotsheet_text { SLOTSHEET_NONE = 0, SLOTSHEET_LIST = 1, SLOTSHEET_SHEET = 2 };
-
 struct slotsheet_checking {
     size_t refusal;
     size_t line;
@@ -99,6 +119,18 @@ struct slotsheet_part {
     size_t start;     /* where it starts in that text, in bytes */
     size_t length;
 };
+
+/* The version of the library that is linked, as SLOTSHEET_VERSION is that of this header. */
+const char *slotsheet_version(void);
+
+/* The name of a refusal in document 01's table, as "ONE-SIDED"; "ACCEPTED" of 0; NULL of a number that is none. */
+const char *slotsheet_name(size_t refusal);
+
+/* A refusal in words for people, as "line 7: entry 12 stands in an earlier group". `place` is what was returned beside it: its row, line, index
+   or nodes. `shown` is the line at fault, from slotsheet_fault_line, and tells the entry; without it (NULL, 0) the sentence says "the entry on
+   this line". Writes as much as fits of the sentence and a final 0, nothing where out_length is 0; returns the sentence's length without the 0, as
+   snprintf does. No sentence is longer than 255 bytes. `out` and `shown` must not overlap. */
+size_t slotsheet_sentence(size_t refusal, uint64_t place, const uint8_t *shown, size_t shown_length, char *out, size_t out_length);
 
 /* Whether rows are a list: 1 to 4, each over all rows before the next. */
 struct slotsheet_verdict slotsheet_validity(const uint64_t *rows, size_t rows_length);
@@ -133,6 +165,11 @@ struct slotsheet_checking slotsheet_check_sheet(const uint8_t *list, size_t list
    that text's end for a fault at an end, and at its start for 18, or 5, which is the sheet's. SLOTSHEET_NONE where the check accepts. Writes
    nothing. */
 struct slotsheet_part slotsheet_fault_line(const uint8_t *list, size_t list_length, const uint8_t *sheet, size_t sheet_length, size_t room);
+
+/* Writes the very bytes that the program slotsheet prints for a clash text: the sheet of its fewest groups, by a walk of at most SLOTSHEET_NODES
+   nodes, or "refused R line L" and a line feed: 19 where they do not all fit; SLOTSHEET_SHEET_BYTES are enough. Accepted, writes the first
+   `length` bytes; those after stay. */
+struct slotsheet_writing slotsheet_answer(const uint8_t *text, size_t text_length, uint8_t *out, size_t out_length);
 
 #ifdef __cplusplus
 }

@@ -161,13 +161,22 @@ def matrix_output(rows):
     return b"written 0 length %d\n" % len(text) + text + b"rest kept\n" + b"written 0 length %d\n" % len(text) + b"written 19 row 0 kept\n"
 
 
+def each_line(text):
+    """Of a refused text, each line with its number, where it starts and how long it is without its line feed."""
+    out, at = [], 0
+    for number, line in enumerate(re.findall(rb"[^\n]*\n|[^\n]+", text), 1):
+        out.append(b"line %d at %d length %d\n" % (number, at, len(line.rstrip(b"\n"))))
+        at += len(line)
+    return b"".join(out)
+
+
 def output():
     out = []
     for at, (text, room) in enumerate(texts(), 1):
         number, line, n, rows = read(text, room)
         out.append(b"%d read " % at)
         if number:
-            out.append(b"%d line %d kept\n" % (number, line))
+            out.append(b"%d line %d kept\n" % (number, line) + each_line(text))
         else:
             out.append(b"0 entries %d rows" % n + b"".join(b" %d" % row for row in rows) + b" rest kept\n" + matrix_output(rows))
     for rows in MATRICES:

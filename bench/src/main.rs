@@ -224,8 +224,15 @@ fn texts(tests: &Path) -> bool {
         let mut out = [0; 1024];
         let length = sheet::write(&division.colours, &mut out).expect("a division");
         let sheet = &out[..length];
-        let read = READERS.iter().all(|(_, read)| read(&text, &mut [0; 64]) == Ok(n));
-        if !read || CHECKERS.iter().any(|(_, check)| check(&text, sheet, &mut [0; 64]) != Some(division.k)) {
+        let same_rows = |read: Reader| {
+            let mut again = [0; 64];
+            read(&text, &mut again) == Ok(n) && again == rows
+        };
+        let same_groups = |check: Checker| {
+            let mut colours = [0; 64];
+            check(&text, sheet, &mut colours) == Some(division.k) && colours[..n] == division.colours
+        };
+        if !READERS.iter().all(|(_, read)| same_rows(*read)) || !CHECKERS.iter().all(|(_, check)| same_groups(*check)) {
             println!("{name}: the answers differ");
             return false;
         }

@@ -1,15 +1,15 @@
-/* Reads a clash text from the named file, or from standard input, and prints its sitting sheet, or "refused R line L". Of two files, checks the
-   second, a sheet, against the first: "groups K", or "refused R line L: " and the line at fault.
+/* Reads a clash list from the named file and prints its sitting sheet. Of two files, checks the second, a sheet, against the first, and prints
+   "groups K". What is refused is said in words, with status 1.
 
-   cc -std=c99 -Iinclude bindings/c/example.c target/staticlib/libcapi.a -o example && ./example examples/five-cycle.col */
+   cc -std=c99 example.c $(pkg-config --cflags --libs slotsheet) -o example && ./example list.col */
 #include <slotsheet.h>
 #include <stdio.h>
 
-#define BUDGET 1000000
-
-static int refused(size_t refusal, size_t line) {
-    printf("refused %zu line %zu\n", refusal, line);
-    return 0;
+static int refused(const char *text, size_t refusal, uint64_t place, const uint8_t *shown, size_t shown_length) {
+    char sentence[256];
+    slotsheet_sentence(refusal, place, shown, shown_length, sentence, sizeof sentence);
+    printf("%s%s\n", text, sentence);
+    return 1;
 }
 
 static int answer(const uint8_t *text, size_t length) {
@@ -18,15 +18,16 @@ static int answer(const uint8_t *text, size_t length) {
     uint8_t sheet[SLOTSHEET_SHEET_BYTES];
 
     struct slotsheet_reading read = slotsheet_read_list(text, length, rows, SLOTSHEET_ENTRIES);
-    if (read.refusal != SLOTSHEET_ACCEPTED) return refused(read.refusal, read.line);
+    if (read.refusal != SLOTSHEET_ACCEPTED) return refused("", read.refusal, read.line, NULL, 0);
 
-    struct slotsheet_walk walk = slotsheet_fewest(rows, read.entries, colours, sizeof colours, BUDGET);
-    if (walk.refusal != SLOTSHEET_ACCEPTED) return refused(walk.refusal, 0);
+    /* What was read is a list, and there is room: only the budget may refuse. */
+    struct slotsheet_walk walk = slotsheet_fewest(rows, read.entries, colours, sizeof colours, SLOTSHEET_NODES);
+    if (walk.refusal != SLOTSHEET_ACCEPTED) return refused("", walk.refusal, walk.nodes, NULL, 0);
 
     struct slotsheet_writing written = slotsheet_write_sheet(colours, read.entries, sheet, sizeof sheet);
-    if (written.refusal != SLOTSHEET_ACCEPTED) return refused(written.refusal, 0);
+    if (written.refusal != SLOTSHEET_ACCEPTED) return refused("", written.refusal, written.place, NULL, 0);
 
-    return fwrite(sheet, 1, written.length, stdout) == written.length ? 0 : 1;
+    return fwrite(sheet, 1, written.length, stdout) == written.length ? 0 : 3;
 }
 
 static int check(const uint8_t *list, size_t list_length, const uint8_t *sheet, size_t sheet_length) {
@@ -38,11 +39,8 @@ static int check(const uint8_t *list, size_t list_length, const uint8_t *sheet, 
         return 0;
     }
     struct slotsheet_part part = slotsheet_fault_line(list, list_length, sheet, sheet_length, sizeof colours);
-    const uint8_t *text = part.text == SLOTSHEET_LIST ? list : sheet;
-    printf("refused %zu line %zu: ", check.refusal, check.line);
-    fwrite(text + part.start, 1, part.length, stdout);
-    putchar('\n');
-    return 0;
+    int of_list = part.text == SLOTSHEET_LIST;
+    return refused(of_list ? "list: " : "sheet: ", check.refusal, check.line, (of_list ? list : sheet) + part.start, part.length);
 }
 
 /* One byte more than a text may have, so that a longer one is seen to be. */
@@ -51,19 +49,22 @@ struct text {
     size_t length;
 };
 
-/* The named file, or standard input; 0 where it cannot be read. */
 static int take(struct text *text, const char *name) {
-    FILE *from = name == NULL ? stdin : fopen(name, "rb");
+    FILE *from = fopen(name, "rb");
     if (from != NULL) text->length = fread(text->bytes, 1, sizeof text->bytes, from);
     if (from != NULL && !ferror(from)) return 1;
-    perror(name == NULL ? "standard input" : name);
+    perror(name);
     return 0;
 }
 
 int main(int count, char **names) {
     static struct text list, sheet;
-    if (!take(&list, count > 1 ? names[1] : NULL)) return 2;
-    if (count < 3) return answer(list.bytes, list.length);
+    if (count < 2 || count > 3) {
+        fprintf(stderr, "usage: example LIST [SHEET]\n");
+        return 2;
+    }
+    if (!take(&list, names[1])) return 2;
+    if (count == 2) return answer(list.bytes, list.length);
     if (!take(&sheet, names[2])) return 2;
     return check(list.bytes, list.length, sheet.bytes, sheet.length);
 }

@@ -67,6 +67,12 @@ pub fn write_sheet(colours: &[u8], out: &mut [u8]) -> [usize; 3] {
     [said.refusal, said.place, said.length]
 }
 
+pub fn answer(text: &[u8], out: &mut [u8]) -> [usize; 3] {
+    // SAFETY: as in `validity`.
+    let said = unsafe { raw::slotsheet_answer(text.as_ptr(), text.len(), out.as_mut_ptr(), out.len()) };
+    [said.refusal, said.place, said.length]
+}
+
 pub fn check_sheet(list: &[u8], sheet: &[u8], colours: &mut [u8]) -> [usize; 4] {
     // SAFETY: as in `validity`.
     let said =

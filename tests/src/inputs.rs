@@ -187,7 +187,8 @@ fn damage_number(numbers: &mut Numbers, text: &mut Vec<u8>, n: usize) {
     let end = (start..text.len()).find(|&i| !text[i].is_ascii_digit()).unwrap_or(text.len());
     let near = numbers.below(n as u64 + 1).to_string();
     let (last, next) = (n.to_string(), (n + 1).to_string());
-    let number = *pick(numbers, &[&near, &near, &near, &near, &last, &next, "0", "1", "64", "65", "9999999", "10000000", "01", "00"]);
+    let (near, last, next) = (near.as_str(), last.as_str(), next.as_str());
+    let number = *pick(numbers, &[near, near, near, near, last, next, "0", "1", "64", "65", "9999999", "10000000", "01", "00"]);
     text.splice(start..end, number.bytes());
 }
 

@@ -10,7 +10,7 @@ use second::{colouring, list, matrix, Refusal, Refused, BYTES};
 use crate::calls::{self, Lent, FILL};
 use crate::inputs::{colours, list_of, matrix as any_matrix, sample};
 use crate::stored::{lines, printed, stored};
-use crate::BUDGET;
+use crate::{cases, BUDGET};
 
 const ROW: u64 = 0xA5A5_A5A5_A5A5_A5A5;
 
@@ -51,7 +51,7 @@ fn compared(rows: &[u64], room: usize, budget: u64) -> [u64; 5] {
 #[test]
 fn small_lists() {
     let mut drawn = Numbers(41);
-    for _ in 0..4_000 {
+    for _ in 0..cases(4_000) {
         let rows = list_of(&mut drawn, 9);
         let n = rows.len();
         let said = compared(&rows, n, 100_000);
@@ -66,7 +66,7 @@ fn small_lists() {
 fn longer_lists() {
     let mut drawn = Numbers(42);
     let mut ended = 0;
-    for _ in 0..1_500 {
+    for _ in 0..cases(1_500) {
         let rows = list_of(&mut drawn, 30);
         let said = compared(&rows, rows.len(), 400);
         if said[0] == 0 {
@@ -74,7 +74,7 @@ fn longer_lists() {
             ended += 1;
         }
     }
-    assert!(ended > 1_000, "{ended}");
+    assert!(ended > cases(1_000), "{ended}");
     for n in [40, 55, 63, 64] {
         for percent in [0, 3, 50, 90, 97, 100] {
             compared(&bench::lists::random(&mut drawn, n, percent), 64, 300);
@@ -111,12 +111,43 @@ fn spent_walks() {
     }
 }
 
+/// What the program prints for a text, by the second program's reading and writing and the walk that is written from document 01.
+fn printed_for(text: &[u8]) -> Vec<u8> {
+    let refused = |number, line| format!("refused {number} line {line}\n").into_bytes();
+    let (mut rows, mut colours, mut out) = ([0; 64], [0; 64], [0; slotsheet::SHEET_BYTES]);
+    let n = match list::read(text, &mut rows) {
+        Ok(n) => n,
+        Err(why) => return refused(why.why.number(), why.place),
+    };
+    if let Err(why) = described::fewest(&rows[..n], &mut colours, BUDGET) {
+        return refused(why.why.number(), 0);
+    }
+    let length = sheet::write(&colours[..n], &mut out).expect("the sheet of a division fits");
+    out[..length].to_vec()
+}
+
+/// The library's answer is what the program should print, in a buffer of that length, of one byte less and of some more.
+fn answered(text: &[u8]) {
+    let expected = printed_for(text);
+    for room in [expected.len(), expected.len() - 1, expected.len() + 7] {
+        let (mut lent, mut again) = (Lent::new(room, FILL), Lent::new(room, FILL));
+        let said = calls::answer(text, lent.part());
+        if room < expected.len() {
+            assert_eq!(said, [19, 0, 0], "{text:?}");
+        } else {
+            assert_eq!(said, [0, 0, expected.len()], "{text:?}");
+            again.part()[..expected.len()].copy_from_slice(&expected);
+        }
+        assert_eq!(lent, again, "{text:?}");
+    }
+}
+
 /// Lent rows that are often no list: validity, bounds, walks and the written list.
 #[test]
 fn damaged_matrices() {
     let mut drawn = Numbers(43);
     let mut met = BTreeMap::new();
-    for _ in 0..20_000 {
+    for _ in 0..cases(20_000) {
         let rows = any_matrix(&mut drawn);
         let judged = matrix::judge(&rows);
         let [refusal, place, _] = numbers(judged.map(|()| 0));
@@ -137,14 +168,14 @@ fn damaged_matrices() {
             *met.entry(said[0]).or_insert(0) += 1;
         }
     }
-    assert!([0, 1, 2, 3, 4, 19].iter().all(|number| met.get(number).is_some_and(|&times| times > 100)), "{met:?}");
+    assert!([0, 1, 2, 3, 4, 19].iter().all(|number| met.get(number).is_some_and(|&times| times > cases(100))), "{met:?}");
 }
 
 #[test]
 fn damaged_colours() {
     let mut drawn = Numbers(44);
     let mut met = BTreeMap::new();
-    for _ in 0..20_000 {
+    for _ in 0..cases(20_000) {
         let given = colours(&mut drawn);
         let room = drawn.below(700) as usize;
         let (mut lent, mut again) = (Lent::new(room, FILL), Lent::new(room, FILL));
@@ -153,7 +184,7 @@ fn damaged_colours() {
         assert_eq!(lent, again, "{given:?}");
         *met.entry(said[0]).or_insert(0) += 1;
     }
-    assert!([0, 1, 19, 38].iter().all(|number| met.get(number).is_some_and(|&times| times > 100)), "{met:?}");
+    assert!([0, 1, 19, 38].iter().all(|number| met.get(number).is_some_and(|&times| times > cases(100))), "{met:?}");
 }
 
 /// Reading with 64 rows and with few; and checking, with the place of the line at fault: every refusal of both texts is met often.
@@ -161,7 +192,7 @@ fn damaged_colours() {
 fn damaged_texts_and_sheets() {
     let mut drawn = Numbers(45);
     let mut met = BTreeMap::new();
-    for _ in 0..20_000 {
+    for _ in 0..cases(20_000) {
         let sample = sample(&mut drawn);
         for room in [64, sample.room] {
             let (mut lent, mut again) = (Lent::new(room, ROW), Lent::new(room, ROW));
@@ -169,6 +200,9 @@ fn damaged_texts_and_sheets() {
             assert_eq!(said, numbers(list::read(&sample.list, again.part())), "{sample:?}");
             assert_eq!(lent, again, "{sample:?}");
             *met.entry((0, said[0])).or_insert(0) += 1;
+            if room == 64 && said[2] <= 12 {
+                answered(&sample.list);
+            }
         }
         let (mut lent, mut again) = (Lent::new(sample.room, FILL), Lent::new(sample.room, FILL));
         let said = calls::check_sheet(&sample.list, &sample.sheet, lent.part());
@@ -185,7 +219,7 @@ fn damaged_texts_and_sheets() {
         assert_eq!(calls::fault_line(&sample.list, &sample.sheet, sample.room), [said[3], part.offset, part.length], "{sample:?}");
         *met.entry((said[3], said[0])).or_insert(0) += 1;
     }
-    let often = |text, refusal| assert!(met.get(&(text, refusal)).is_some_and(|&times| times > 50), "{text} {refusal}: {met:?}");
+    let often = |text, refusal| assert!(met.get(&(text, refusal)).is_some_and(|&times| times > cases(50)), "{text} {refusal}: {met:?}");
     for refusal in [0, 10, 11, 12, 13, 14, 15, 16, 17, 18] {
         often(0, refusal);
     }
@@ -205,7 +239,7 @@ fn safe_wrappers() {
         Ok(value) => [0, 0, value],
         Err(refused) => [refused.why.number(), refused.place as usize, 0],
     };
-    for _ in 0..3_000 {
+    for _ in 0..cases(3_000) {
         let rows = any_matrix(&mut drawn);
         let [clique, mycielskian] = calls::bounds(&rows);
         assert_eq!(same(slotsheet::validity(&rows).map(|()| 0))[..2], calls::validity(&rows));

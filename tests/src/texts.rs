@@ -6,14 +6,13 @@ use bench::lists::Numbers;
 use second::sheet::{self, Part, Text};
 use second::{list, matrix, Refusal};
 
+use crate::cases;
 use crate::inputs::{colours, list_of, matrix as any_matrix, rows_of, sample};
-
-const SAMPLES: usize = 20_000;
 
 #[test]
 fn lists_read_back() {
     let mut numbers = Numbers(11);
-    for _ in 0..3_000 {
+    for _ in 0..cases(3_000) {
         let rows = list_of(&mut numbers, 64);
         let mut out = vec![0xA5; 20_000];
         let length = list::write(&rows, &mut out).expect("room enough");
@@ -27,7 +26,7 @@ fn lists_read_back() {
 #[test]
 fn written_sheets_pass() {
     let mut numbers = Numbers(12);
-    for _ in 0..3_000 {
+    for _ in 0..cases(3_000) {
         let given = colours(&mut numbers);
         let mut out = [0xA5; 1024];
         match sheet::write(&given, &mut out) {
@@ -56,7 +55,7 @@ fn written_sheets_pass() {
 fn matrices_are_judged_alike() {
     let mut numbers = Numbers(13);
     let mut met = BTreeMap::new();
-    for _ in 0..20_000 {
+    for _ in 0..cases(20_000) {
         let rows = any_matrix(&mut numbers);
         let judged = matrix::judge(&rows);
         let walked = bench::tuned::fewest(&rows, &mut vec![0; rows.len()], 0);
@@ -66,7 +65,7 @@ fn matrices_are_judged_alike() {
         }
         *met.entry(judged.err().map_or(0, |refused| refused.why.number())).or_insert(0) += 1;
     }
-    assert!((0..=4).all(|number| met.get(&number).is_some_and(|&times| times > 100)), "{met:?}");
+    assert!((0..=4).all(|number| met.get(&number).is_some_and(|&times| times > cases(100))), "{met:?}");
 }
 
 /// Every refusal that a check can give is met often; an accepted sheet is a clash-free division; the preview shows what the check says.
@@ -74,7 +73,7 @@ fn matrices_are_judged_alike() {
 fn damaged_samples() {
     let mut numbers = Numbers(14);
     let mut met = BTreeMap::new();
-    for _ in 0..SAMPLES {
+    for _ in 0..cases(20_000) {
         let sample = sample(&mut numbers);
         for room in [64, sample.room] {
             let (mut rows, mut again) = (vec![7; room], vec![7; room]);
@@ -110,9 +109,9 @@ fn damaged_samples() {
         *met.entry(number).or_insert(0) += 1;
     }
     for number in [10, 11, 12, 13, 14, 15, 16, 18] {
-        assert!(met.get(&(number, 0)).is_some_and(|&times| times > 50), "{number} of a list: {met:?}");
+        assert!(met.get(&(number, 0)).is_some_and(|&times| times > cases(50)), "{number} of a list: {met:?}");
     }
     for number in [0, 5, 18, 30, 31, 32, 33, 34, 35, 36, 37] {
-        assert!(met.get(&(number, 1)).is_some_and(|&times| times > 50), "{number} of a sheet: {met:?}");
+        assert!(met.get(&(number, 1)).is_some_and(|&times| times > cases(50)), "{number} of a sheet: {met:?}");
     }
 }

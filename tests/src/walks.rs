@@ -5,6 +5,7 @@ use bench::{described, tuned, Walk, Walked};
 use second::matrix::{all_divisions, groups, is_clash_free, rows_of};
 use second::{colouring, Refusal, Refused};
 
+use crate::cases;
 use crate::inputs::list_of;
 
 const BOUNDED: [Walk; 2] = [described::fewest, tuned::fewest];
@@ -110,7 +111,7 @@ fn every_list_of_up_to_six_entries() {
 #[test]
 fn small_lists_against_all_divisions() {
     let mut numbers = Numbers(21);
-    for _ in 0..1_500 {
+    for _ in 0..cases(1_500) {
         against_all_divisions(&list_of(&mut numbers, 9));
     }
 }
@@ -134,21 +135,21 @@ fn against_all_divisions(rows: &[u64]) {
 fn random_lists_against_the_second_program() {
     let mut numbers = Numbers(22);
     let mut ended = 0;
-    for _ in 0..4_000 {
+    for _ in 0..cases(4_000) {
         let rows = list_of(&mut numbers, 30);
         if let Some(walked) = compared(&rows, 3_000) {
             assert_eq!(walked.k as usize, colouring::fewest(&rows).k, "{rows:?}");
             ended += 1;
         }
     }
-    assert!(ended > 3_500, "{ended}");
+    assert!(ended > cases(3_500), "{ended}");
 }
 
 #[test]
 fn long_lists_against_the_second_program() {
     let mut numbers = Numbers(23);
     let mut ended = 0;
-    for percent in (0..=100).step_by(4) {
+    for percent in (0..=100).step_by(100 / cases(25)) {
         for n in [45, 55, 63, 64] {
             let rows = random(&mut numbers, n, percent);
             if let Some(walked) = compared(&rows, 4_000) {
@@ -157,6 +158,6 @@ fn long_lists_against_the_second_program() {
             }
         }
     }
-    assert!(ended >= 20, "{ended}");
+    assert!(ended >= cases(20), "{ended}");
     assert_eq!(described::bounds(&complete(64)), Ok((64, 64)));
 }

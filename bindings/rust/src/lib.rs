@@ -20,17 +20,10 @@ use std::fmt;
 /// The C interface itself.
 pub mod raw;
 mod refusal;
+mod table;
 
-pub use refusal::Refusal;
-
-/// The most entries of a list.
-pub const ENTRIES: usize = 64;
-/// The most bytes of a text that is read.
-pub const BYTES: usize = 65_536;
-/// No sheet is longer.
-pub const SHEET_BYTES: usize = 641;
-/// No written list is longer.
-pub const LIST_BYTES: usize = 15_576;
+pub use refusal::Beside;
+pub use table::{Refusal, BYTES, ENTRIES, LIST_BYTES, NODES, SHEET_BYTES, STACK_BYTES, VERSION};
 
 /// A refusal with what is "also returned" beside it: row, line, index or nodes, by document 01's table; 0 where it names nothing.
 #[derive(Clone, Copy, Debug, PartialEq, Eq)]
@@ -62,16 +55,42 @@ pub struct Fault {
     pub refused: Refused,
 }
 
+/// The refusal's sentence for people.
+///
+/// ```
+/// let refused = slotsheet::read_list(b"p edge 2 1\ne 1 1\n", &mut [0; 64]).unwrap_err();
+/// assert_eq!(refused.to_string(), "line 2: here an entry clashes with itself");
+/// ```
 impl fmt::Display for Refused {
     fn fmt(&self, f: &mut fmt::Formatter) -> fmt::Result {
-        write!(f, "refused {} ({:?}) at {}", self.why.number(), self.why, self.place)
+        f.write_str(&self.why.sentence(self.place, b""))
     }
 }
 
+impl fmt::Display for Text {
+    fn fmt(&self, f: &mut fmt::Formatter) -> fmt::Result {
+        f.write_str(if *self == Text::List { "list" } else { "sheet" })
+    }
+}
+
+impl Fault {
+    /// The text at fault and the refusal's sentence, with the entry's number where `shown` is the line that [`fault_line`] gives.
+    ///
+    /// ```
+    /// let (list, sheet) = (b"p edge 2 1\ne 1 2\n", b"groups 1\nsize 2\n1\n2\n");
+    /// let fault = slotsheet::check_sheet(list, sheet, &mut [0; 2]).unwrap_err();
+    /// let shown = slotsheet::fault_line(list, sheet, 2);
+    /// assert_eq!(fault.sentence(shown), "sheet: line 4: entry 2 clashes with an earlier entry of its group");
+    /// ```
+    pub fn sentence(&self, shown: &[u8]) -> String {
+        format!("{}: {}", self.text, self.refused.why.sentence(self.refused.place, shown))
+    }
+}
+
+/// The text at fault and the refusal's sentence for people, which says "the entry on this line" for the entry.
 impl fmt::Display for Fault {
     fn fmt(&self, f: &mut fmt::Formatter) -> fmt::Result {
-        let text = if self.text == Text::List { "list" } else { "sheet" };
-        write!(f, "{text}: {}", self.refused)
+        f.write_str(&self.sentence(b""))
     }
 }
 
@@ -79,7 +98,7 @@ impl std::error::Error for Refused {}
 impl std::error::Error for Fault {}
 
 /// The answer, or the refusal of this number at this place.
-fn answer<T>(refusal: usize, place: u64, accepted: T) -> Result<T, Refused> {
+fn told<T>(refusal: usize, place: u64, accepted: T) -> Result<T, Refused> {
     if refusal == 0 {
         return Ok(accepted);
     }
@@ -90,26 +109,26 @@ fn answer<T>(refusal: usize, place: u64, accepted: T) -> Result<T, Refused> {
 pub fn validity(rows: &[u64]) -> Result<(), Refused> {
     // SAFETY: in this and every call below, each slice is passed whole, and what is written is borrowed by this call alone.
     let said = unsafe { raw::slotsheet_validity(rows.as_ptr(), rows.len()) };
-    answer(said.refusal, said.row as u64, ())
+    told(said.refusal, said.row as u64, ())
 }
 
 /// The clique bound: 1 to 4.
 pub fn clique_bound(rows: &[u64]) -> Result<usize, Refused> {
     // SAFETY: as in `validity`.
     let said = unsafe { raw::slotsheet_clique_bound(rows.as_ptr(), rows.len()) };
-    answer(said.refusal, said.row as u64, said.bound)
+    told(said.refusal, said.row as u64, said.bound)
 }
 
 /// The Mycielskian bound: 1 to 4.
 pub fn mycielskian_bound(rows: &[u64]) -> Result<usize, Refused> {
     // SAFETY: as in `validity`.
     let said = unsafe { raw::slotsheet_mycielskian_bound(rows.as_ptr(), rows.len()) };
-    answer(said.refusal, said.row as u64, said.bound)
+    told(said.refusal, said.row as u64, said.bound)
 }
 
 fn walked(said: raw::Walk) -> Result<Walked, Refused> {
     let place = if said.refusal == Refusal::Budget as usize { said.nodes } else { said.row as u64 };
-    answer(said.refusal, place, Walked { k: said.k, nodes: said.nodes, leaves: said.leaves })
+    told(said.refusal, place, Walked { k: said.k, nodes: said.nodes, leaves: said.leaves })
 }
 
 /// The fewest groups: 1 to 4, 5, 7, 6. Writes the group number of each of the n entries.
@@ -128,21 +147,35 @@ pub fn plain(rows: &[u64], colours: &mut [u8], budget: u64) -> Result<Walked, Re
 pub fn read_list(text: &[u8], rows: &mut [u64]) -> Result<usize, Refused> {
     // SAFETY: as in `validity`.
     let said = unsafe { raw::slotsheet_read_list(text.as_ptr(), text.len(), rows.as_mut_ptr(), rows.len()) };
-    answer(said.refusal, said.line as u64, said.entries)
+    told(said.refusal, said.line as u64, said.entries)
 }
 
 /// Writes a list's clash text and returns its length: 1 to 4, 19.
 pub fn write_list(rows: &[u64], out: &mut [u8]) -> Result<usize, Refused> {
     // SAFETY: as in `validity`.
     let said = unsafe { raw::slotsheet_write_list(rows.as_ptr(), rows.len(), out.as_mut_ptr(), out.len()) };
-    answer(said.refusal, said.place as u64, said.length)
+    told(said.refusal, said.place as u64, said.length)
 }
 
 /// Writes a sheet and returns its length: 1, 38, 19.
 pub fn write_sheet(colours: &[u8], out: &mut [u8]) -> Result<usize, Refused> {
     // SAFETY: as in `validity`.
     let said = unsafe { raw::slotsheet_write_sheet(colours.as_ptr(), colours.len(), out.as_mut_ptr(), out.len()) };
-    answer(said.refusal, said.place as u64, said.length)
+    told(said.refusal, said.place as u64, said.length)
+}
+
+/// Writes the very bytes that the program `slotsheet` prints for a clash text, and returns their number: the sheet of its fewest groups, by a walk of
+/// at most [`NODES`] nodes, or "refused R line L" and a line feed. 19 where they do not all fit; [`SHEET_BYTES`] are enough.
+///
+/// ```
+/// let mut out = [0; slotsheet::SHEET_BYTES];
+/// let length = slotsheet::answer(b"p edge 2 1\ne 1 3\n", &mut out).unwrap();
+/// assert_eq!(&out[..length], b"refused 14 line 2\n");
+/// ```
+pub fn answer(text: &[u8], out: &mut [u8]) -> Result<usize, Refused> {
+    // SAFETY: as in `validity`.
+    let said = unsafe { raw::slotsheet_answer(text.as_ptr(), text.len(), out.as_mut_ptr(), out.len()) };
+    told(said.refusal, said.place as u64, said.length)
 }
 
 /// Checks a sheet against a list: the list's refusals, 5, then the sheet's. Writes each entry's group number and returns k.
@@ -151,7 +184,7 @@ pub fn check_sheet(list: &[u8], sheet: &[u8], colours: &mut [u8]) -> Result<usiz
     let said =
         unsafe { raw::slotsheet_check_sheet(list.as_ptr(), list.len(), sheet.as_ptr(), sheet.len(), colours.as_mut_ptr(), colours.len()) };
     let text = if said.text == 1 { Text::List } else { Text::Sheet };
-    answer(said.refusal, said.line as u64, said.groups).map_err(|refused| Fault { text, refused })
+    told(said.refusal, said.line as u64, said.groups).map_err(|refused| Fault { text, refused })
 }
 
 /// The line at fault in a check with so many colour bytes, without its line feed, as a part of the text that holds it: empty at that text's end

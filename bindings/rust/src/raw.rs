@@ -69,4 +69,5 @@ extern "C" {
         colours_length: usize,
     ) -> Checking;
     pub fn slotsheet_fault_line(list: *const u8, list_length: usize, sheet: *const u8, sheet_length: usize, room: usize) -> Part;
+    pub fn slotsheet_answer(text: *const u8, text_length: usize, out: *mut u8, out_length: usize) -> Writing;
 }

@@ -1,73 +1,63 @@
-//! Document 01's table of refusals.
+//! A refusal's number, name, what is returned beside it, and its sentence for people: over the table that `tools/bindings` writes.
 
-/// Each refusal by its name in document 01 (`Itself` for SELF); its value is its number there.
-#[derive(Clone, Copy, Debug, PartialEq, Eq, PartialOrd, Ord, Hash)]
-pub enum Refusal {
-    Many = 1,
-    Stray = 2,
-    Itself = 3,
-    OneSided = 4,
-    Short = 5,
-    Budget = 6,
-    Deep = 7,
-    Line = 10,
-    Headless = 11,
-    Second = 12,
-    Size = 13,
-    Vertex = 14,
-    Loop = 15,
-    Count = 16,
-    Room = 17,
-    Long = 18,
-    Full = 19,
-    SheetLine = 30,
-    Member = 31,
-    Order = 32,
-    Twice = 33,
-    Clash = 34,
-    Ends = 35,
-    Missing = 36,
-    Extra = 37,
-    Colours = 38,
+use crate::table::{Refusal, Row, TABLE};
+
+/// What is returned beside a refusal.
+#[derive(Clone, Copy, Debug, PartialEq, Eq, Hash)]
+pub enum Beside {
+    Nothing,
+    /// A row, counted from 0.
+    Row,
+    /// A line, counted from 1; the number of lines plus one for a fault at a text's end.
+    Line,
+    /// The index of a colour byte, counted from 0.
+    Index,
+    /// The nodes that the walk entered.
+    Nodes,
 }
 
 impl Refusal {
-    const ALL: [Refusal; 26] = [
-        Refusal::Many,
-        Refusal::Stray,
-        Refusal::Itself,
-        Refusal::OneSided,
-        Refusal::Short,
-        Refusal::Budget,
-        Refusal::Deep,
-        Refusal::Line,
-        Refusal::Headless,
-        Refusal::Second,
-        Refusal::Size,
-        Refusal::Vertex,
-        Refusal::Loop,
-        Refusal::Count,
-        Refusal::Room,
-        Refusal::Long,
-        Refusal::Full,
-        Refusal::SheetLine,
-        Refusal::Member,
-        Refusal::Order,
-        Refusal::Twice,
-        Refusal::Clash,
-        Refusal::Ends,
-        Refusal::Missing,
-        Refusal::Extra,
-        Refusal::Colours,
-    ];
+    /// Every refusal, by rising number.
+    pub fn all() -> impl Iterator<Item = Refusal> {
+        TABLE.iter().map(|row| row.refusal)
+    }
 
     /// The number that document 01 gives.
     pub fn number(self) -> usize {
         self as usize
     }
 
+    /// The name that document 01 gives, as "ONE-SIDED".
+    pub fn name(self) -> &'static str {
+        self.row().name
+    }
+
+    /// What is returned beside it.
+    pub fn beside(self) -> Beside {
+        self.row().beside
+    }
+
+    /// In words for people. `place` is what was returned beside it; `shown` is the line at fault, or empty where it is not at hand.
+    ///
+    /// ```
+    /// let said = slotsheet::Refusal::Twice.sentence(7, b"12");
+    /// assert_eq!(said, "line 7: entry 12 stands in an earlier group");
+    /// ```
+    pub fn sentence(self, place: u64, shown: &[u8]) -> String {
+        let entry = match std::str::from_utf8(shown) {
+            Ok(number) if (1..=7).contains(&shown.len()) && shown.iter().all(u8::is_ascii_digit) => format!("entry {number}"),
+            _ => "the entry on this line".to_string(),
+        };
+        let next = place.wrapping_add(1).to_string();
+        self.row().sentence.replace("{place}", &place.to_string()).replace("{next}", &next).replace("{entry}", &entry)
+    }
+
+    fn row(self) -> &'static Row {
+        TABLE.iter().find(|row| row.refusal == self).expect("the table has every refusal")
+    }
+
     /// The refusal of a number that the library answered; it answers no other.
     pub(crate) fn of(number: usize) -> Refusal {
-        Self::ALL.into_iter().find(|refusal| refusal.number() == number).expect("a number of document 01's table")
+        Self::all().find(|refusal| refusal.number() == number).expect("a number of document 01's table")
     }
 }

@@ -5,7 +5,7 @@ use mathlib.Core.List.{List}
 use Prim.Native.Nat.{ℕ}
 use Rattle.bounds.specs.Names.{cliqueBound, mycielskian}
 use Rattle.zykov.specs.Walk.{boundedWalk, plainWalk}
-use Rattle.sittings.specs.Numbers.{verdictNumbers, boundNumbers, walkNumbers, readNumbers, listNumbers, sheetNumbers, checkNumbers, partNumbers}
+use Rattle.sittings.specs.Numbers.{verdictNumbers, boundNumbers, walkNumbers, readNumbers, listNumbers, sheetNumbers, checkNumbers, partNumbers, printedNumbers}
 use Rattle.sittings.specs.declared.numbers.VerdictNumbers.{VerdictNumbers}
 use Rattle.sittings.specs.declared.numbers.BoundNumbers.{BoundNumbers}
 use Rattle.sittings.specs.declared.numbers.WalkNumbers.{WalkNumbers}
@@ -14,7 +14,7 @@ use Rattle.sittings.specs.declared.numbers.WriteNumbers.{WriteNumbers}
 use Rattle.sittings.specs.declared.numbers.CheckNumbers.{CheckNumbers}
 use Rattle.sittings.specs.declared.numbers.PartNumbers.{PartNumbers}
 use Rattle.sittings.proofs.Unique as face
-use Rattle.capi.specs.Calls.{ValidityCall, BoundCall, WalkCall, ReadCall, ListCall, SheetCall, CheckCall, PartCall}
+use Rattle.capi.specs.Calls.{ValidityCall, BoundCall, WalkCall, ReadCall, ListCall, SheetCall, CheckCall, PartCall, AnswerCall}
 
 -- the two laws, over any numbers f of answers: one answer has one set of numbers, and the lent memory is as the answer leaves it
 numbers-unique : {A R : Type 0} (f : A → R) {a b : A} {r q : R} → r ≡ f a → q ≡ f b → a ≡ b → r ≡ q
@@ -70,3 +70,8 @@ pub check-sheet-unique : (list sheet old : List ℕ) (r q : CheckNumbers) (new o
     → (r ≡ q) × (new ≡ other)
 check-sheet-unique list sheet old r q new other x y =
     call-unique checkNumbers (x .numbers) (y .numbers) (face.check-sheet-unique list sheet old (x .answer) (y .answer) new other (x .promised) (y .promised))
+
+pub answer-unique : (text old : List ℕ) (r q : WriteNumbers) (new other : List ℕ) → AnswerCall text old r new → AnswerCall text old q other
+    → (r ≡ q) × (new ≡ other)
+answer-unique text old r q new other x y =
+    call-unique printedNumbers (x .numbers) (y .numbers) (face.answer-unique text old (x .answer) (y .answer) new other (x .promised) (y .promised))

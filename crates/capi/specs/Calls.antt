@@ -1,6 +1,6 @@
 -- What a call from C promises: the numbers of an answer that meets the face's promise, and the lent memory as that leaves it.
 --
---   ValidityCall, BoundCall, WalkCall, ReadCall, ListCall, SheetCall, CheckCall, PartCall : one for each kind of call
+--   ValidityCall, BoundCall, WalkCall, ReadCall, ListCall, SheetCall, CheckCall, PartCall, AnswerCall : one for each kind of call
 --
 -- Assumes nothing.
 use mathlib.Core.Path.{_≡_}
@@ -24,7 +24,9 @@ use Rattle.sheets.specs.Promise.{CheckPromise}
 use Rattle.sheets.specs.Place.{PlacePromise}
 use Rattle.sheets.specs.declared.Checked.{Checked}
 use Rattle.sheets.specs.declared.Part.{Part}
-use Rattle.sittings.specs.Numbers.{verdictNumbers, boundNumbers, walkNumbers, readNumbers, listNumbers, sheetNumbers, checkNumbers, partNumbers}
+use Rattle.answers.specs.Printed.{AnswerPromise}
+use Rattle.answers.specs.declared.Printed.{Printed}
+use Rattle.sittings.specs.Numbers.{verdictNumbers, boundNumbers, walkNumbers, readNumbers, listNumbers, sheetNumbers, checkNumbers, partNumbers, printedNumbers}
 use Rattle.sittings.specs.declared.numbers.VerdictNumbers.{VerdictNumbers}
 use Rattle.sittings.specs.declared.numbers.BoundNumbers.{BoundNumbers}
 use Rattle.sittings.specs.declared.numbers.WalkNumbers.{WalkNumbers}
@@ -72,3 +74,8 @@ pub record PartCall (list sheet : List ℕ) (room : ℕ) (r : PartNumbers) : Typ
   pub answer : Part
   pub promised : PlacePromise list sheet room answer
   pub numbers : r ≡ partNumbers answer
+
+pub record AnswerCall (text old : List ℕ) (r : WriteNumbers) (new : List ℕ) : Type 0 where
+  pub answer : Printed
+  pub promised : AnswerPromise text old answer new
+  pub numbers : r ≡ printedNumbers answer

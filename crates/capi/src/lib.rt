@@ -9,7 +9,7 @@ use sittings::numbers::WalkNumbers;
 use sittings::numbers::WriteNumbers;
 ghost use Rattle.bounds.specs.Names.{cliqueBound, mycielskian};
 ghost use Rattle.zykov.specs.Walk.{boundedWalk, plainWalk};
-ghost use Rattle.capi.specs.Calls.{ValidityCall, BoundCall, WalkCall, ReadCall, ListCall, SheetCall, CheckCall, PartCall};
+ghost use Rattle.capi.specs.Calls.{ValidityCall, BoundCall, WalkCall, ReadCall, ListCall, SheetCall, CheckCall, PartCall, AnswerCall};
 
 #[no_mangle]
 pub extern "C" fn slotsheet_validity(rows: &[u64]) -> VerdictNumbers
@@ -93,4 +93,12 @@ pub extern "C" fn slotsheet_fault_line(list: &[u8], sheet: &[u8], room: usize) -
 {
     let a = sittings::fault_part(list, sheet, room);
     sittings::numbers::of_part(a)
+}
+
+#[no_mangle]
+pub extern "C" fn slotsheet_answer(text: &[u8], out: &mut [u8]) -> WriteNumbers
+    ensures { λ r. ⌜ AnswerCall (now (text .entry)) (now (out .entry)) r (now (out .exit)) ⌝ }
+{
+    let a = sittings::answer(text, out);
+    sittings::numbers::of_printed(a)
 }

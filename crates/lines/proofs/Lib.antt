@@ -5,3 +5,4 @@ pub mod Words
 pub mod Writing
 pub mod Back
 pub mod Parts
+pub mod Standing

@@ -3,3 +3,4 @@ pub mod Part
 pub mod Number
 pub mod Words
 pub mod Numeral
+pub mod Reader

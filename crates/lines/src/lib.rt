@@ -2,13 +2,16 @@
 // A line is handed out as a part of the lent text: its bytes where they lie, without the line feed. A number has 1 to 7
 // digits and no leading zero. The writers put bytes from a place on and return the place after them; all others stay.
 ghost use mathlib.Core.Path.{_≡_};
-ghost use Prim.Native.Nat.{_+_, _<_, _≤_, _^_};
+ghost use Prim.Native.Nat.{_+_, _<_, _≤_};
+ghost use mathlib.Core.Bool.{not};
+ghost use lib.Dec.{ltb};
 ghost use lib.ListN.{length};
 ghost use Rattle.lines.specs.Text.{lineEnd, nextStart, placeOf};
 ghost use Rattle.lines.specs.Part.{PartOf, LineOf};
 ghost use Rattle.lines.specs.Number.{numberOf};
 ghost use Rattle.lines.specs.Words.{starts, aloneOf, pairOf};
 ghost use Rattle.lines.specs.Numeral.{numeral, oneLine, twoLine, Put};
+ghost use Rattle.lines.specs.Reader.{inText, nextNumber, startOf, nextOf, atEnd};
 
 // The number at the front of some bytes and how many bytes it takes.
 pub enum Front {
@@ -45,9 +48,11 @@ pub fn line_end(s: &[u8], at: usize) -> usize
 
 // Where the line after the one at `at` starts, or the text's end.
 pub fn next_start(s: &[u8], at: usize) -> usize
-    requires { ⌜ at ≤ length (now s) ⌝ }
     ensures { λ r. ⌜ (r ≡ nextStart (now (s .entry)) at) × (r ≤ length (now (s .entry))) ⌝ }
 {
+    if s.len() <= at {
+        return s.len();
+    }
     let e = line_end(s, at);
     if e < s.len() { e + 1 } else { s.len() }
 }
@@ -60,13 +65,47 @@ pub fn part<'a>(s: &'a [u8], a: usize, e: usize) -> &'a [u8]
     &s[a..e]
 }
 
-// The line that starts at `at`.
-pub fn line_at<'a>(s: &'a [u8], at: usize) -> &'a [u8]
-    requires { ⌜ at ≤ length (now s) ⌝ }
-    ensures { λ r. ⌜ LineOf (s .entry) at r ⌝ }
+// The place itself, or the text's end where it lies past it.
+pub fn in_text(s: &[u8], at: usize) -> usize
+    ensures { λ r. ⌜ (r ≡ inText (now (s .entry)) at) × (r ≤ length (now (s .entry))) ⌝ }
 {
-    let e = line_end(s, at);
-    part(s, at, e)
+    if at < s.len() {
+        return at;
+    }
+    s.len()
+}
+
+// The line that starts at `at`; past the text's end, the empty part there.
+pub fn line_at<'a>(s: &'a [u8], at: usize) -> &'a [u8]
+    ensures { λ r. ⌜ LineOf (s .entry) (inText (now (s .entry)) at) r ⌝ }
+{
+    let a = in_text(s, at);
+    let e = line_end(s, a);
+    part(s, a, e)
+}
+
+// The number of the line after the one that starts at `start` and has the number `line`. At the text's end it stays, as the
+// largest number does.
+pub fn next_number(s: &[u8], start: usize, line: usize) -> usize
+    ensures { λ r. ⌜ r ≡ nextNumber (now (s .entry)) start line ⌝ }
+{
+    if s.len() <= start {
+        return line;
+    }
+    if line < usize::MAX {
+        return line + 1;
+    }
+    line
+}
+
+// Whether no line starts at `at`: the text ends there, or before.
+pub fn ends(s: &[u8], at: usize) -> bool
+    ensures { λ r. ⌜ r ≡ not (ltb at (length (now (s .entry)))) ⌝ }
+{
+    if at < s.len() {
+        return false;
+    }
+    true
 }
 
 // Where line k starts, counted from 0; past the last line, the text's end.
@@ -83,14 +122,6 @@ pub fn place(s: &[u8], k: usize) -> usize
         i += 1;
     }
     at
-}
-
-// Line k, counted from 0; past the last line, the empty part at the text's end.
-pub fn line_no<'a>(s: &'a [u8], k: usize) -> &'a [u8]
-    ensures { λ r. ⌜ LineOf (s .entry) (placeOf (now (s .entry)) k) r ⌝ }
-{
-    let at = place(s, k);
-    line_at(s, at)
 }
 
 fn wide(b: u8) -> usize
@@ -275,7 +306,7 @@ pub struct Reader<'a> {
 impl<'a> Reader<'a> {
     // At the start of a text, on line 1.
     pub fn new(text: &'a [u8]) -> Reader<'a>
-        ensures { λ r. ⌜ (r .text ≡ text .entry) × (r .at ≡ 0) × (r .line ≡ 1) ⌝ }
+        ensures { λ r. ⌜ r ≡ startOf (text .entry) ⌝ }
     {
         Reader {
             text,
@@ -286,22 +317,28 @@ impl<'a> Reader<'a> {
 
     // The line that it stands on; at the text's end, the empty part there.
     pub fn here(self) -> &'a [u8]
-        requires { ⌜ self .at ≤ length (now (self .text)) ⌝ }
-        ensures { λ r. ⌜ LineOf (self .entry .text) (self .entry .at) r ⌝ }
+        ensures { λ r. ⌜ LineOf (self .entry .text) (inText (now (self .entry .text)) (self .entry .at)) r ⌝ }
     {
         line_at(self.text, self.at)
     }
 
-    // On the next line, where there is one to leave.
+    // Whether there is no line to leave.
+    pub fn at_end(self) -> bool
+        ensures { λ r. ⌜ r ≡ atEnd (self .entry) ⌝ }
+    {
+        ends(self.text, self.at)
+    }
+
+    // On the next line; at the text's end it stays.
     pub fn next(self) -> Reader<'a>
-        requires { ⌜ (self .at < length (now (self .text))) × (self .line < 2 ^ 32) ⌝ }
-        ensures { λ r. ⌜ (r .text ≡ self .entry .text) × (r .at ≡ nextStart (now (self .entry .text)) (self .entry .at)) × (r .line ≡ self .entry .line + 1) ⌝ }
+        ensures { λ r. ⌜ r ≡ nextOf (self .entry) ⌝ }
     {
         let at = next_start(self.text, self.at);
+        let line = next_number(self.text, self.at, self.line);
         Reader {
             text: self.text,
             at,
-            line: self.line + 1,
+            line,
         }
     }
 
@@ -320,9 +357,18 @@ impl<'a> Reader<'a> {
     }
 }
 
-// The first line of a text, by a reader.
-pub fn first_line<'a>(text: &'a [u8]) -> &'a [u8]
-    ensures { λ r. ⌜ LineOf (text .entry) 0 r ⌝ }
+// Line k, counted from 0, by a reader; past the last line, the empty part at the text's end.
+pub fn line_no<'a>(s: &'a [u8], k: usize) -> &'a [u8]
+    ensures { λ r. ⌜ LineOf (s .entry) (placeOf (now (s .entry)) k) r ⌝ }
 {
-    Reader::new(text).here()
+    let mut r = Reader::new(s);
+    let mut i: usize = 0;
+    while i < k {
+        if r.at_end() {
+            break;
+        }
+        r = r.next();
+        i += 1;
+    }
+    r.here()
 }

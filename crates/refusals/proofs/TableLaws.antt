@@ -1,19 +1,19 @@
 -- The table's numbers tell its refusals apart, and none of them is 0, which says accepted; what is told with a refusal leaves its number as it
 -- is. Assumes nothing.
-use mathlib.Core.Path.{_≡_, refl, sym, ap, _∙_}
+use mathlib.Core.Path.{_≡_, refl, sym, ap, subst, _∙_}
 use mathlib.Core.Logic.{_≢_}
-use mathlib.Core.Bool.{cond}
+use mathlib.Core.Bool.{Bool, true, false, cond}
 use mathlib.Core.List.{List, [], _∷_}
 use mathlib.Core.Option.{Option, none, some}
 use Prim.Native.Nat.{ℕ}
 use native.Mathlib.Omega.{arith}
-use lib.Dec.{eqb}
+use lib.Dec.{T, eqb, eqb→eq}
 use Rattle.refusals.specs.Table.{Beside, nothing, aRow, theNodes, aLine, anIndex, entry, numberOf, accepted, with, told}
 use Rattle.refusals.specs.declared.Refusal.{Refusal}
 use Rattle.refusals.specs.declared.Refusal.the-variants.{Many, Stray, Itself, OneSided, Short, Budget, Deep, Line, Headless, Second, Size, Vertex, Loop, Count, Room, Long, Full, SheetLine, Member, Order, Twice, Clash, Ends, Missing, Extra, Colours}
 
 -- every refusal, in the table's order
-abbrev all : List Refusal
+abbrev pub all : List Refusal
 all =
     Many ∷ Stray ∷ Itself ∷ OneSided ∷ Short ∷ Budget ∷ Deep ∷ Line ∷ Headless ∷ Second ∷ Size ∷ Vertex ∷ Loop ∷ Count ∷ Room ∷ Long ∷ Full
     ∷ SheetLine ∷ Member ∷ Order ∷ Twice ∷ Clash ∷ Ends ∷ Missing ∷ Extra ∷ Colours ∷ []
@@ -67,3 +67,24 @@ told-number r x = go (entry r .beside)
     go theNodes = refl
     go aLine = refl
     go anIndex = refl
+
+-- ---- a test of every number, computed once, holds of each
+
+abbrev pub passes : (ℕ → Bool) → List Refusal → Bool
+passes p [] = true
+passes p (r ∷ rs) = cond (p (numberOf r)) (passes p rs) false
+
+found : (p : ℕ → Bool) (n : ℕ) (r : Refusal) (rs : List Refusal) → passes p rs ≡ true → whose n rs ≡ some r → p n ≡ true
+found p n r [] t e = let z : _≡_ {A = ℕ} 0 1 = cc in absurd (omega arith)
+found p n r (q ∷ rs) t e = here (p (numberOf q)) refl t (found p n r rs)
+  where
+    at : (b : Bool) → eqb n (numberOf q) ≡ b → cond b (some q) (whose n rs) ≡ some r → p (numberOf q) ≡ true → (whose n rs ≡ some r → p n ≡ true) → p n ≡ true
+    at true d f h later = ap p (eqb→eq n (numberOf q) (subst T (sym d) tt)) ∙ h
+    at false d f h later = later f
+
+    here : (b : Bool) → p (numberOf q) ≡ b → cond b (passes p rs) false ≡ true → (passes p rs ≡ true → whose n rs ≡ some r → p n ≡ true) → p n ≡ true
+    here true d u later = at (eqb n (numberOf q)) refl e d (later u)
+    here false d u later = let z : _≡_ {A = ℕ} 0 1 = cc in absurd (omega arith)
+
+pub table-rule : (p : ℕ → Bool) → passes p all ≡ true → (r : Refusal) → p (numberOf r) ≡ true
+table-rule p t r = found p (numberOf r) r all t (back r)

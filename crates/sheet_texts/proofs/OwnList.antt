@@ -124,7 +124,7 @@ module _ (most longest : ℕ) (text lent : List ℕ) (n : ℕ) (rows : List ℕ)
   pub read-up-to-again : readUpTo most longest text most .answer ≡ Read n
   read-up-to-again = ap (λ (f : Found). f .answer) (same-read most longest text (length lent) n answer-is) ∙ answer-is
 
-  rows-are : take n rows ≡ take n (readUpTo most longest text most .rows)
+  pub rows-are : take n rows ≡ take n (readUpTo most longest text most .rows)
   rows-are =
       let g = readUpTo most longest text (length lent) .rows in
       let w : rows ≡ take n g ++ drop n lent = x .lent ∙ ap (λ (a : Reading). written a g lent) answer-is in

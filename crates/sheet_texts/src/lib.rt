@@ -127,7 +127,7 @@ fn put_sheet(out: &mut [u8], colours: &[u8], k: usize) -> usize
 }
 
 // The sheet of colour bytes that are numbered by first use and use k numbers.
-fn compose(colours: &[u8], k: usize) -> Composed
+pub fn compose(colours: &[u8], k: usize) -> Composed
     requires { ⌜ (length (now colours) ≤ 64) × Canon 0 (now colours) × (k ≡ groups 0 (now colours)) ⌝ }
     ensures { λ r. ⌜ (r .length ≤ 768) × (r .length ≡ length (sheetText (now (colours .entry)))) × (take (r .length) (r .bytes) ≡ sheetText (now (colours .entry))) ⌝ }
 {

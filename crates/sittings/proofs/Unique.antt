@@ -27,6 +27,9 @@ use Rattle.sheets.specs.declared.Checked.{Checked}
 use Rattle.sheets.specs.declared.Part.{Part}
 use Rattle.sheets.proofs.Unique as sheets
 use Rattle.sheets.proofs.Places as places
+use Rattle.answers.specs.Printed.{AnswerPromise, LongPromise}
+use Rattle.answers.specs.declared.Printed.{Printed}
+use Rattle.answers.proofs.Calls as answers
 
 pub validity-unique : (rows : List ℕ) (a b : Verdict) → Judged rows a → Judged rows b → a ≡ b
 validity-unique = judged-unique
@@ -78,3 +81,10 @@ fault-part-shown list sheet room r p = places.place-shown list sheet room r p
 pub shown-fault-part : (list sheet : RefT (List ℕ)) (room : ℕ) (r : RefT (List ℕ)) (p : Part) → PlacePromise (now list) (now sheet) room p
     → places.At (places.holder list sheet p) p r → PreviewPromise list sheet room r
 shown-fault-part list sheet room r p = places.shown-place list sheet room r p
+
+pub answer-unique : (text old : List ℕ) (a b : Printed) (new other : List ℕ) → AnswerPromise text old a new → AnswerPromise text old b other
+    → (a ≡ b) × (new ≡ other)
+answer-unique = answers.answer-unique
+
+pub answer-long-unique : (old : List ℕ) (a b : Printed) (new other : List ℕ) → LongPromise old a new → LongPromise old b other → (a ≡ b) × (new ≡ other)
+answer-long-unique = answers.long-unique

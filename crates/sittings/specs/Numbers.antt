@@ -9,8 +9,11 @@
 --   sheetNumbers   : of writing a sheet
 --   checkNumbers   : of checking a sheet
 --   partNumbers    : of the place of the line at fault
+--   printedNumbers : of writing what slotsheet prints
 --
 -- Assumes nothing.
+use Rattle.refusals.specs.Table.{accepted, told}
+use Rattle.refusals.specs.declared.Refusal.the-variants.{Full as full}
 use Rattle.clashes.specs.Matrix.{numbers}
 use Rattle.clashes.specs.declared.Verdict.{Verdict}
 use Rattle.bounds.specs.Lent.{verdictOf, valueOf}
@@ -25,6 +28,8 @@ use Rattle.sheet_texts.specs.declared.Written as sheet
 use Rattle.sheets.specs.Promise as sheets
 use Rattle.sheets.specs.declared.Checked.{Checked}
 use Rattle.sheets.specs.declared.Part.{Part}
+use Rattle.answers.specs.declared.Printed.{Printed}
+use Rattle.answers.specs.declared.Printed.the-variants.{Length, Full}
 use Rattle.sittings.specs.declared.numbers.VerdictNumbers.{VerdictNumbers}
 use Rattle.sittings.specs.declared.numbers.BoundNumbers.{BoundNumbers}
 use Rattle.sittings.specs.declared.numbers.WalkNumbers.{WalkNumbers}
@@ -67,3 +72,7 @@ checkNumbers a = record {
 
 abbrev pub partNumbers : Part → PartNumbers
 partNumbers p = record { text = p .text; start = p .start; length = p .length }
+
+abbrev pub printedNumbers : Printed → WriteNumbers
+printedNumbers (Length n) = record { refusal = accepted; place = 0; length = n }
+printedNumbers Full = record { refusal = told full 0 .number; place = 0; length = 0 }

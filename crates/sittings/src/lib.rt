@@ -1,5 +1,6 @@
 // The library's face: every function that a wizard calls. None asks its caller to check anything beforehand, each answers every input by one
 // promise, and none writes to lent memory where it refuses.
+use answers::Printed;
 use bounds::Bound;
 use clashes::Verdict;
 use lists::Reading;
@@ -14,6 +15,7 @@ ghost use Rattle.lists.specs.Promise.{ReadPromise, WritePromise};
 ghost use Rattle.sheet_texts.specs.Promise.{WritePromise as SheetPromise};
 ghost use Rattle.sheets.specs.Promise.{CheckPromise, PreviewPromise};
 ghost use Rattle.sheets.specs.Place.{PlacePromise};
+ghost use Rattle.answers.specs.Printed.{AnswerPromise, LongPromise};
 
 pub mod numbers;
 
@@ -92,4 +94,19 @@ pub fn fault_part(list: &[u8], sheet: &[u8], room: usize) -> sheets::Part
     ensures { λ r. ⌜ PlacePromise (now (list .entry)) (now (sheet .entry)) room r ⌝ }
 {
     sheets::fault_part(list, sheet, room)
+}
+
+// Writes what slotsheet prints for a clash text to the lent bytes: the sheet of its fewest sittings, by a walk with a budget of 1,000,000, or
+// "refused R line L" and a line feed.
+pub fn answer(text: &[u8], out: &mut [u8]) -> Printed
+    ensures { λ r. ⌜ AnswerPromise (now (text .entry)) (now (out .entry)) r (now (out .exit)) ⌝ }
+{
+    answers::answer(text, out)
+}
+
+// The same for any text that is too long to be read, without it.
+pub fn answer_long(out: &mut [u8]) -> Printed
+    ensures { λ r. ⌜ LongPromise (now (out .entry)) r (now (out .exit)) ⌝ }
+{
+    answers::answer_long(out)
 }

@@ -1,4 +1,5 @@
 // Document 01's numbers of each answer, for callers that go by numbers: other languages, and the program.
+use answers::Printed;
 use bounds::Bound;
 use clashes::Verdict;
 use lists::Reading;
@@ -9,7 +10,7 @@ use refusals::number;
 use sheets::Checked;
 use walk::Answer;
 ghost use mathlib.Core.Path.{_≡_};
-ghost use Rattle.sittings.specs.Numbers.{verdictNumbers, boundNumbers, walkNumbers, readNumbers, listNumbers, sheetNumbers, checkNumbers, partNumbers};
+ghost use Rattle.sittings.specs.Numbers.{verdictNumbers, boundNumbers, walkNumbers, readNumbers, listNumbers, sheetNumbers, checkNumbers, partNumbers, printedNumbers};
 
 #[repr(C)]
 pub struct VerdictNumbers {
@@ -40,7 +41,7 @@ pub struct ReadNumbers {
     pub entries: usize,
 }
 
-// Of writing a list or a sheet: `place` is the row, or the index of a colour byte.
+// Of writing a list, a sheet or an answer: `place` is the row, or the index of a colour byte.
 #[repr(C)]
 pub struct WriteNumbers {
     pub refusal: usize,
@@ -271,5 +272,22 @@ pub fn of_part(p: sheets::Part) -> PartNumbers
         text: p.text,
         start: p.start,
         length: p.length,
+    }
+}
+
+pub fn of_printed(a: Printed) -> WriteNumbers
+    ensures { λ r. ⌜ r ≡ printedNumbers a ⌝ }
+{
+    match a {
+        Printed::Length(length) => WriteNumbers {
+            refusal: 0,
+            place: 0,
+            length,
+        },
+        Printed::Full => WriteNumbers {
+            refusal: number(Refusal::Full),
+            place: 0,
+            length: 0,
+        },
     }
 }

@@ -3,6 +3,7 @@
 // stdout, which tests/awkward_texts.py makes from document 01 alone.
 use libc::STDIN_FILENO;
 use lines::Pair;
+use lines::Reader;
 use lists::Reading;
 use lists::Written;
 use refusals::Refusal;
@@ -102,7 +103,26 @@ fn put_list(lent: &[u64], n: usize)
     written(&lent[..n]);
 }
 
-// Reads one text into the lent rows, all 7.
+fn put_line(number: usize, start: usize, line: &[u8]) {
+    trials::put(b"line ");
+    trials::put_number(number);
+    trials::put(b" at ");
+    trials::put_number(start);
+    trials::put(b" length ");
+    trials::put_number(line.len());
+    trials::put(b"\n");
+}
+
+// Each line of a text with its number, where it starts and how long it is, by a reader.
+fn put_lines(text: &[u8]) {
+    let mut r = Reader::new(text);
+    while !r.at_end() {
+        put_line(r.line_number(), r.position(), r.here());
+        r = r.next();
+    }
+}
+
+// Reads one text into the lent rows, all 7; of a text that is refused each line is shown where it lies.
 fn trial(text: &[u8], lent: &mut [u64]) {
     match lists::read_list(text, lent) {
         Reading::Refused(why, line) => {
@@ -111,6 +131,7 @@ fn trial(text: &[u8], lent: &mut [u64]) {
             trials::put_number(line);
             trials::put(b" ");
             trials::put_kept_rows(lent, 0);
+            put_lines(text);
         }
         Reading::Read(n) => {
             put_list(lent, n);

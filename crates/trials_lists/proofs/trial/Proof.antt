@@ -43,6 +43,9 @@ put-requires-2 c κs = search needs
 put-kept-rows-requires : tie.Need-put-kept-rows-requires
 put-kept-rows-requires c κs = search needs
 
+put-lines-requires : tie.Need-put-lines-requires
+put-lines-requires c κs = search needs
+
 enum-known-n : tie.Need-enum-known-n
 enum-known-n c = search needs
 
@@ -75,6 +78,7 @@ trial-spec =
     slice-aggregate-put-2
     put-requires-2
     put-kept-rows-requires
+    put-lines-requires
     enum-known-n
     put-list-requires
     same-length

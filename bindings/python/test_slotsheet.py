@@ -1,0 +1,156 @@
+"""Tests of the Python module: python3 -m unittest test_slotsheet, with SLOTSHEET_LIB or PYTHONPATH as the module wants them."""
+
+import ctypes
+import doctest
+import pickle
+import threading
+import unittest
+from pathlib import Path
+
+import slotsheet
+from slotsheet import Refused
+
+FIVE = [(0, 1), (1, 2), (2, 3), (3, 4), (4, 0)]
+LIST = "p edge 3 1\ne 1 2\n"
+
+# A call for each refusal, what is returned beside it, and the start of its sentence. DEEP is none that a list can meet; the module always lends
+# enough room, so SHORT, ROOM and FULL are met by no call of it.
+REFUSED = {
+    1: (lambda: slotsheet.validity([0] * 65), {}),
+    2: (lambda: slotsheet.clique_bound([0, 8]), {"row": 1}),
+    3: (lambda: slotsheet.mycielskian_bound([0, 0, 4]), {"row": 2}),
+    4: (lambda: slotsheet.write_list([0, 1]), {"row": 1}),
+    6: (lambda: slotsheet.fewest([0, 0, 0], 4), {"nodes": 4}),
+    10: (lambda: slotsheet.read_list("p edge 1 0"), {"line": 1}),
+    11: (lambda: slotsheet.read_list(b""), {"line": 1}),
+    12: (lambda: slotsheet.read_list("p edge 1 0\np edge 1 0\n"), {"line": 2}),
+    13: (lambda: slotsheet.read_list("p edge 65 0\n"), {"line": 1}),
+    14: (lambda: slotsheet.read_list("p edge 2 1\ne 1 3\n"), {"line": 2}),
+    15: (lambda: slotsheet.read_list("p edge 2 1\ne 1 1\n"), {"line": 2}),
+    16: (lambda: slotsheet.read_list("p edge 2 2\ne 1 2\n"), {"line": 3}),
+    18: (lambda: slotsheet.read_list(b"\n" * 65537), {}),
+    30: (lambda: slotsheet.check_sheet(LIST, "group 1\n"), {"line": 1, "text": "sheet", "shown": b"group 1"}),
+    31: (lambda: slotsheet.check_sheet(LIST, "groups 1\nsize 1\n4\n"), {"line": 3, "text": "sheet", "shown": b"4"}),
+    32: (lambda: slotsheet.check_sheet(LIST, "groups 1\nsize 2\n3\n1\n"), {"line": 4, "text": "sheet", "shown": b"1"}),
+    33: (lambda: slotsheet.check_sheet(LIST, "groups 2\nsize 2\n1\n3\nsize 2\n2\n3\n"), {"line": 7, "text": "sheet", "shown": b"3"}),
+    34: (lambda: slotsheet.check_sheet(LIST, "groups 1\nsize 2\n1\n2\n"), {"line": 4, "text": "sheet", "shown": b"2"}),
+    35: (lambda: slotsheet.check_sheet(LIST, ""), {"line": 1, "text": "sheet", "shown": b""}),
+    36: (lambda: slotsheet.check_sheet(LIST, "groups 1\nsize 1\n1\n"), {"line": 4, "text": "sheet", "shown": b""}),
+    37: (lambda: slotsheet.check_sheet(LIST, "groups 0\nx"), {"line": 2, "text": "sheet", "shown": b"x"}),
+    38: (lambda: slotsheet.write_sheet([0, 2]), {"index": 1}),
+}
+UNMET = {5, 7, 17, 19}
+
+
+def interface(kind):
+    """The rows of one kind of bindings/interface.txt."""
+    text = (Path(__file__).resolve().parent.parent / "interface.txt").read_text()
+    return [line.split(" | ")[1:] for line in text.splitlines() if line.startswith(kind + " | ")]
+
+
+class Calls(unittest.TestCase):
+    def test_a_list_from_text_to_sheet_and_back(self):
+        rows = slotsheet.rows_of(5, FIVE)
+        text = slotsheet.write_list(rows)
+        self.assertEqual(slotsheet.read_list(text), rows)
+        self.assertEqual(slotsheet.read_list(bytearray(text.encode())), rows)
+        answer = slotsheet.fewest(rows)
+        self.assertEqual(answer, (3, [0, 1, 0, 1, 2], 5, 0))
+        self.assertEqual(slotsheet.check_sheet(text, slotsheet.write_sheet(answer.colours)), (3, answer.colours))
+        self.assertEqual(slotsheet.plain(rows).leaves, 11)
+        self.assertEqual((slotsheet.clique_bound(rows), slotsheet.mycielskian_bound(rows)), (2, 3))
+        self.assertIsNone(slotsheet.validity(rows))
+
+    def test_no_entries(self):
+        self.assertEqual(slotsheet.fewest([]), (0, [], 1, 0))
+        self.assertEqual(slotsheet.write_list([]), "p edge 0 0\n")
+        self.assertEqual(slotsheet.write_sheet([]), "groups 0\n")
+        self.assertEqual(slotsheet.check_sheet("p edge 0 0\n", "groups 0\n"), (0, []))
+
+    def test_answer(self):
+        self.assertEqual(slotsheet.answer(""), "refused 11 line 1\n")
+        self.assertEqual(slotsheet.answer("p edge 0 0\n"), "groups 0\n")
+        self.assertEqual(slotsheet.answer(b"c" * 65_537), "refused 18 line 0\n")
+        text = "p edge 5 5\ne 1 2\ne 2 3\ne 3 4\ne 4 5\ne 1 5\n"
+        self.assertEqual(slotsheet.answer(text), slotsheet.write_sheet(slotsheet.fewest(slotsheet.read_list(text)).colours))
+
+    def test_sixty_four_entries(self):
+        rows = slotsheet.rows_of(64, [(i, j) for i in range(64) for j in range(i)])
+        text = slotsheet.write_list(rows)
+        self.assertEqual(len(text), slotsheet.LIST_BYTES)
+        self.assertEqual(slotsheet.read_list(text), rows)
+        sheet = slotsheet.write_sheet(slotsheet.fewest(rows).colours)
+        self.assertEqual(len(sheet), slotsheet.SHEET_BYTES)
+        self.assertEqual(slotsheet.check_sheet(text, sheet).k, 64)
+
+    def test_texts_of_any_bytes(self):
+        self.assertEqual(slotsheet.read_list("c Bogenschießen\np edge 1 0\n"), [0])
+        self.assertEqual(slotsheet.read_list(b"c \xff\x00\np edge 1 0\n"), [0])
+
+    def test_wrong_arguments(self):
+        for rows in ([-1], [1 << 64]):
+            self.assertRaises(OverflowError, slotsheet.validity, rows)
+        self.assertRaises(OverflowError, slotsheet.fewest, [], -1)
+        self.assertRaises(IndexError, slotsheet.rows_of, 2, [(0, 2)])
+        self.assertRaises(ValueError, slotsheet.write_sheet, [256])
+        for call in (slotsheet.read_list, slotsheet.write_sheet):
+            self.assertRaises(TypeError, call, 5)
+
+    def test_threads(self):
+        rows, found = slotsheet.rows_of(5, FIVE), []
+        threads = [threading.Thread(target=lambda: found.extend(slotsheet.fewest(rows).k for _ in range(100))) for _ in range(4)]
+        for thread in threads:
+            thread.start()
+        for thread in threads:
+            thread.join()
+        self.assertEqual(found, [3] * 400)
+
+
+class Refusals(unittest.TestCase):
+    def test_each_is_provoked(self):
+        self.assertEqual(set(REFUSED) | UNMET, {int(row[0]) for row in interface("refusal")})
+        for number, (call, beside) in REFUSED.items():
+            with self.subTest(number), self.assertRaises(Refused) as caught:
+                call()
+            refused = caught.exception
+            self.assertEqual((refused.number, str(refused)), (number, refused.sentence))
+            for name in ("line", "row", "index", "nodes", "text", "shown"):
+                self.assertEqual(getattr(refused, name), beside.get(name), f"{number} {name}")
+
+    def test_the_list_of_a_check(self):
+        with self.assertRaises(Refused) as caught:
+            slotsheet.check_sheet("p edge 2 1\ne 1 3\n", "groups 0\n")
+        self.assertEqual(caught.exception.shown, b"e 1 3")
+        self.assertEqual(caught.exception.sentence, "list: line 2: this clash names an entry that the list does not have")
+
+    def test_sentences_are_those_of_c(self):
+        for number in slotsheet._TABLE:
+            for shown in (b"", b"12", b"12345678", b"size 1", b"-1"):
+                out = ctypes.create_string_buffer(256)
+                length = slotsheet._library.slotsheet_sentence(number, 7, shown, len(shown), out, 256)
+                self.assertEqual(out.value.decode(), Refused(number, 7, None, shown).sentence)
+                self.assertEqual(length, len(out.value))
+            self.assertEqual(slotsheet._library.slotsheet_name(number).decode(), Refused(number, 7).name)
+
+    def test_the_table(self):
+        rows = {int(number): (name, None if beside == "-" else beside, sentence) for number, name, beside, _, sentence in interface("refusal")}
+        self.assertEqual(slotsheet._TABLE, rows)
+        self.assertEqual(slotsheet.VERSION, interface("version")[0][0])
+        self.assertEqual(slotsheet.version(), slotsheet.VERSION)
+        for name, value, _ in interface("limit"):
+            self.assertEqual(getattr(slotsheet, name), int(value))
+
+    def test_it_can_be_copied(self):
+        refused = Refused(33, 7, "sheet", b"12")
+        again = pickle.loads(pickle.dumps(refused))
+        self.assertEqual(again.sentence, "sheet: line 7: entry 12 stands in an earlier group")
+        self.assertEqual((again.number, again.line, again.shown), (33, 7, b"12"))
+
+
+def load_tests(loader, tests, ignore):
+    tests.addTests(doctest.DocTestSuite(slotsheet))
+    return tests
+
+
+if __name__ == "__main__":
+    unittest.main()

@@ -1,0 +1,70 @@
+-- What is printed, from what the calls promise: a text that is refused has its refusal printed; of a text that is read, and whose rows a walk with this budget
+-- divides, the sheet of that division is printed; and 6 where the walk is refused for effort. So what the demands say of these calls is so of what is
+-- printed. And each promise leaves one answer and one state of the lent bytes. Assumes nothing.
+use Prim.Native.Nat.{ℕ, _<_}
+use mathlib.Core.Path.{_≡_, refl, sym, ap, subst, _∙_}
+use mathlib.Core.List.{List}
+use native.Mathlib.Omega.{arith}
+use lib.ListN.{length, take, replicate, length-replicate}
+use Rattle.refusals.specs.Table.{numberOf, told}
+use Rattle.refusals.specs.declared.Refusal.the-variants as refusal
+use Rattle.bounds.specs.Names.{mycielskian}
+use Rattle.zykov.specs.Walk.{boundedWalk}
+use Rattle.walk.specs.Promise.{Promised}
+use Rattle.walk.specs.declared.Answer.the-variants.{Accepted, Budget}
+use Rattle.lists.specs.Read.{mostEntries, longestText, readOf}
+use Rattle.lists.specs.Promise.{refusalOf, ReadPromise}
+use Rattle.lists.specs.declared.Fault.{Fault}
+use Rattle.lists.specs.declared.Reading.{Reading}
+use Rattle.lists.specs.declared.Reading.the-variants.{Read, Refused}
+use Rattle.sheet_texts.specs.Sheet.{sheetText}
+use Rattle.sheet_texts.proofs.OwnList.{read-up-to-again, rows-are, rows-count}
+use Rattle.answers.specs.Printed.{budget, refusedText, rowsText, printed, Writes, AnswerPromise, LongPromise}
+use Rattle.answers.specs.declared.Printed.{Printed}
+use Rattle.answers.proofs.Laws.{printed-read, printed-refused, rows-accepted, rows-spent}
+
+-- the text is refused
+pub refusal-printed : (text lent : List ℕ) (f : Fault) (k : ℕ) (rows : List ℕ) → length lent ≡ 64 → ReadPromise text lent (Refused f k) rows
+    → printed text ≡ refusedText (numberOf (refusalOf f)) (told (refusalOf f) k .line)
+refusal-printed text lent f k rows z x =
+    printed-refused text (readOf text 64) refl f k (sym (subst (λ (room : ℕ). Refused f k ≡ readOf text room .answer) z (x .answer)))
+
+-- the text is read
+module _ (text lent : List ℕ) (n : ℕ) (rows : List ℕ) (x : ReadPromise text lent (Read n) rows) where
+  list-printed : printed text ≡ rowsText (take n rows)
+  list-printed =
+      printed-read text (readOf text 64) refl n (read-up-to-again mostEntries longestText text lent n rows x)
+      ∙ ap rowsText (sym (rows-are mostEntries longestText text lent n rows x))
+
+  -- the sheet of the division that the walk left, which the demands speak of (crates/walk/proofs/Demands.antt)
+  pub sheet-printed : (before : List ℕ) (k m l : ℕ) (after : List ℕ) → Promised (boundedWalk mycielskian) (take n rows) before budget (Accepted k m l) after
+      → printed text ≡ sheetText (take n after)
+  sheet-printed before k m l after p =
+      list-printed ∙ rows-accepted (take n rows) before k m l after p ∙ ap (λ (i : ℕ). sheetText (take i after)) (rows-count text lent n rows x)
+
+  pub spent-printed : (before : List ℕ) (m : ℕ) (after : List ℕ) → Promised (boundedWalk mycielskian) (take n rows) before budget (Budget m) after
+      → printed text ≡ refusedText (numberOf refusal.Budget) 0
+  spent-printed before m after p = list-printed ∙ rows-spent (take n rows) before (p .0 .more)
+
+-- ---- one answer
+
+writes-unique : (x old : List ℕ) (a b : Printed) (new other : List ℕ) → Writes x old a new → Writes x old b other → (a ≡ b) × (new ≡ other)
+writes-unique x old a b new other p q = (p .answer ∙ sym (q .answer), p .lent ∙ sym (q .lent))
+
+pub answer-unique : (text old : List ℕ) (a b : Printed) (new other : List ℕ) → AnswerPromise text old a new → AnswerPromise text old b other
+    → (a ≡ b) × (new ≡ other)
+answer-unique text = writes-unique (printed text)
+
+-- a text that is too long: any will do
+long : (n : ℕ) → List ℕ
+long n = replicate n 0
+
+long-enough : (n : ℕ) → longestText < n → longestText < length (long n)
+unfolding long
+long-enough n h = subst (λ (m : ℕ). longestText < m) (sym (length-replicate n 0)) h
+
+pub long-unique : (old : List ℕ) (a b : Printed) (new other : List ℕ) → LongPromise old a new → LongPromise old b other → (a ≡ b) × (new ≡ other)
+long-unique old a b new other p q =
+    let s = long 65537 in
+    let h = long-enough 65537 (omega arith) in
+    answer-unique s old a b new other (p s h) (q s h)

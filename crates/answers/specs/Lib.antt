@@ -1,0 +1,2 @@
+-- What slotsheet prints.
+pub mod Printed

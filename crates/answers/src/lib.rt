@@ -1,0 +1,91 @@
+// What slotsheet prints for a clash text: the sheet of its fewest sittings, or the refusal in a line.
+use lists::Reading;
+use lists::refusal_of;
+use refusals::Refusal;
+use refusals::line;
+use refusals::number;
+use sheet_texts::Composed;
+use sheet_texts::compose;
+use walk::Answer;
+ghost use Prim.Native.Nat.{_≤_, _<_};
+ghost use lib.ListN.{length};
+ghost use Rattle.clashes.specs.Matrix.{Sound};
+ghost use Rattle.answers.specs.Printed.{refusedText, rowsText, printed, IsText, Fitted, AnswerPromise, LongPromise};
+
+// The whole text was written, with its length; or it does not fit, which is document 01's 19.
+pub enum Printed {
+    Length(usize),
+    Full,
+}
+
+// The nodes that the walk may enter.
+const BUDGET: u64 = 1000000;
+
+// "refused R line L" and a line feed.
+fn refused(r: usize, l: usize) -> Composed
+    requires { ⌜ (r < 10000000) × (l < 10000000) ⌝ }
+    ensures { λ t. ⌜ IsText (refusedText r l) t ⌝ }
+{
+    let mut bytes = [0u8; 768];
+    let a = lines::put_word(&mut bytes, 0, b"refused ");
+    let b = lines::put_number(&mut bytes, a, r);
+    let length = lines::put_one(&mut bytes, b, b" line ", l);
+    Composed { bytes, length }
+}
+
+// What is printed for the rows of a list.
+fn of_rows(rows: &[u64]) -> Composed
+    requires { ⌜ Sound (now rows) ⌝ }
+    ensures { λ t. ⌜ IsText (rowsText (now (rows .entry))) t ⌝ }
+{
+    let mut colours = [0u8; 64];
+    let a = walk::fewest(rows, &mut colours, BUDGET);
+    if let Answer::Accepted(k, _nodes, _leaves) = a {
+        let n = rows.len();
+        return compose(&colours[..n], k);
+    }
+    refused(number(Refusal::Budget), 0)
+}
+
+// What is printed for a text.
+fn of_text(text: &[u8]) -> Composed
+    ensures { λ t. ⌜ IsText (printed (now (text .entry))) t ⌝ }
+{
+    let found = lists::gather(text, 64);
+    let answer = found.answer;
+    let rows = found.rows;
+    match answer {
+        Reading::Read(n) => of_rows(&rows[..n]),
+        Reading::Refused(why, at) => {
+            let r = refusal_of(why);
+            refused(number(r), line(r, at))
+        }
+    }
+}
+
+// Puts a composed text at the start, where it fits whole.
+fn fit(text: Composed, out: &mut [u8]) -> Printed
+    requires { ⌜ text .length ≤ 768 ⌝ }
+    ensures { λ r. ⌜ Fitted text (now (out .entry)) r (now (out .exit)) ⌝ }
+{
+    let n = text.length;
+    if out.len() < n {
+        return Printed::Full;
+    }
+    let bytes = text.bytes;
+    Printed::Length(lines::put_word(out, 0, &bytes[..n]))
+}
+
+// Writes what slotsheet prints for this text to the lent bytes.
+pub fn answer(text: &[u8], out: &mut [u8]) -> Printed
+    ensures { λ r. ⌜ AnswerPromise (now (text .entry)) (now (out .entry)) r (now (out .exit)) ⌝ }
+{
+    fit(of_text(text), out)
+}
+
+// Writes what slotsheet prints for any text that is too long to be read, for a caller that has no room for one.
+pub fn answer_long(out: &mut [u8]) -> Printed
+    ensures { λ r. ⌜ LongPromise (now (out .entry)) r (now (out .exit)) ⌝ }
+{
+    fit(refused(number(Refusal::Long), 0), out)
+}

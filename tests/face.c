@@ -1,0 +1,168 @@
+/* The installed library as a C program meets it.
+
+     face             each refusal but DEEP, which no list can meet, is provoked and has the header's number; slices of length 0 may be NULL; the
+                      sentences stay within their buffer; every call is made in a thread of SLOTSHEET_STACK_BYTES; prints "N checks"
+     face sentences   prints every refusal's name and sentence, as `tests/faces.py sentences` does */
+#include <pthread.h>
+#include <slotsheet.h>
+#include <stdio.h>
+#include <stdlib.h>
+#include <string.h>
+
+static int checks, failed;
+
+#define CHECK(holds)                                              \
+    do {                                                          \
+        checks++;                                                 \
+        if (!(holds)) {                                           \
+            printf("face.c, line %d: not so: %s\n", __LINE__, #holds); \
+            failed = 1;                                           \
+        }                                                         \
+    } while (0)
+
+static uint64_t rows[SLOTSHEET_ENTRIES + 1];
+static uint8_t colours[SLOTSHEET_ENTRIES + 1];
+static uint8_t out[SLOTSHEET_LIST_BYTES];
+static uint8_t longest[SLOTSHEET_BYTES + 1];
+
+static size_t length(const char *text) {
+    return strlen(text);
+}
+
+static struct slotsheet_reading read_rows(const char *text, size_t room) {
+    return slotsheet_read_list((const uint8_t *)text, length(text), rows, room);
+}
+
+static size_t read_as(const char *text) {
+    return read_rows(text, SLOTSHEET_ENTRIES).refusal;
+}
+
+/* Checked against three entries, of which the first two clash. */
+static size_t checked_as(const char *sheet) {
+    const char *list = "p edge 3 1\ne 1 2\n";
+    return slotsheet_check_sheet((const uint8_t *)list, length(list), (const uint8_t *)sheet, length(sheet), colours, 64).refusal;
+}
+
+static size_t walked_as(uint64_t first, uint64_t second, size_t room, uint64_t budget) {
+    uint64_t two[2] = {first, second};
+    return slotsheet_fewest(two, 2, colours, room, budget).refusal;
+}
+
+static void numbers(void) {
+    CHECK(walked_as(2, 1, 2, 9) == SLOTSHEET_ACCEPTED);
+    CHECK(slotsheet_validity(rows, 65).refusal == SLOTSHEET_MANY);
+    CHECK(walked_as(4, 1, 2, 9) == SLOTSHEET_STRAY);
+    CHECK(walked_as(1, 0, 2, 9) == SLOTSHEET_SELF);
+    CHECK(walked_as(2, 0, 2, 9) == SLOTSHEET_ONE_SIDED);
+    CHECK(walked_as(2, 1, 1, 9) == SLOTSHEET_SHORT);
+    CHECK(walked_as(2, 1, 2, 0) == SLOTSHEET_BUDGET);
+    CHECK(read_as("p edge 2 1\ne 1  2\n") == SLOTSHEET_LINE);
+    CHECK(read_as("e 1 2\n") == SLOTSHEET_HEADLESS);
+    CHECK(read_as("p edge 2 0\np edge 2 0\n") == SLOTSHEET_SECOND);
+    CHECK(read_as("p edge 65 0\n") == SLOTSHEET_SIZE);
+    CHECK(read_as("p edge 2 1\ne 1 3\n") == SLOTSHEET_VERTEX);
+    CHECK(read_as("p edge 2 1\ne 1 1\n") == SLOTSHEET_LOOP);
+    CHECK(read_as("p edge 2 2\ne 1 2\n") == SLOTSHEET_COUNT);
+    CHECK(read_rows("p edge 2 0\n", 1).refusal == SLOTSHEET_ROOM);
+    CHECK(slotsheet_read_list(longest, sizeof longest, rows, 64).refusal == SLOTSHEET_LONG);
+    CHECK(slotsheet_write_sheet(colours, 0, out, 8).refusal == SLOTSHEET_FULL);
+    CHECK(checked_as("groups\n") == SLOTSHEET_SHEET_LINE);
+    CHECK(checked_as("groups 1\nsize 1\n4\n") == SLOTSHEET_MEMBER);
+    CHECK(checked_as("groups 1\nsize 2\n3\n1\n") == SLOTSHEET_ORDER);
+    CHECK(checked_as("groups 2\nsize 2\n1\n3\nsize 2\n2\n3\n") == SLOTSHEET_TWICE);
+    CHECK(checked_as("groups 1\nsize 2\n1\n2\n") == SLOTSHEET_CLASH);
+    CHECK(checked_as("groups 1\n") == SLOTSHEET_ENDS);
+    CHECK(checked_as("groups 1\nsize 1\n1\n") == SLOTSHEET_MISSING);
+    CHECK(checked_as("groups 0\n\n") == SLOTSHEET_EXTRA);
+    colours[0] = 1;
+    CHECK(slotsheet_write_sheet(colours, 1, out, sizeof out).refusal == SLOTSHEET_COLOURS);
+}
+
+/* What an empty std::vector gives; and any other pointer of length 0. */
+static void nulls(void) {
+    uint8_t *odd = (uint8_t *)1;
+    CHECK(slotsheet_validity(NULL, 0).refusal == SLOTSHEET_ACCEPTED);
+    CHECK(slotsheet_validity((const uint64_t *)(const void *)odd, 0).refusal == SLOTSHEET_ACCEPTED);
+    CHECK(slotsheet_clique_bound(NULL, 0).bound == 0);
+    CHECK(slotsheet_mycielskian_bound(NULL, 0).bound == 0);
+    CHECK(slotsheet_fewest(NULL, 0, NULL, 0, 1).nodes == 1);
+    CHECK(slotsheet_plain(NULL, 0, odd, 0, 1).leaves == 1);
+    CHECK(slotsheet_read_list(NULL, 0, NULL, 0).refusal == SLOTSHEET_HEADLESS);
+    CHECK(slotsheet_write_list(NULL, 0, out, sizeof out).length == 11);
+    CHECK(slotsheet_write_list(NULL, 0, NULL, 0).refusal == SLOTSHEET_FULL);
+    CHECK(slotsheet_write_sheet(NULL, 0, NULL, 0).refusal == SLOTSHEET_FULL);
+    CHECK(slotsheet_check_sheet(NULL, 0, NULL, 0, NULL, 0).text == SLOTSHEET_LIST);
+    CHECK(slotsheet_fault_line(NULL, 0, NULL, 0, 0).length == 0);
+    CHECK(slotsheet_sentence(SLOTSHEET_TWICE, 7, NULL, 0, NULL, 0) == length("line 7: the entry on this line stands in an earlier group"));
+}
+
+/* A sentence in every buffer that is too small for it, and in one that is large enough: nothing past the buffer, and a 0 at its end. */
+static void buffers(void) {
+    const char *whole = "line 7: entry 12 stands in an earlier group";
+    for (size_t room = 0; room <= length(whole) + 2; room++) {
+        char lent[64];
+        memset(lent, '#', sizeof lent);
+        CHECK(slotsheet_sentence(SLOTSHEET_TWICE, 7, (const uint8_t *)"12", 2, lent, room) == length(whole));
+        size_t put = room == 0 ? 0 : room - 1 < length(whole) ? room - 1 : length(whole);
+        CHECK(memcmp(lent, whole, put) == 0);
+        if (room > 0) CHECK(lent[put] == 0);
+        CHECK(lent[room == 0 ? 0 : put + 1] == '#');
+    }
+    for (size_t number = 0; number < 1000; number++) CHECK(slotsheet_sentence(number, UINT64_MAX, NULL, 0, NULL, 0) < 256);
+}
+
+/* Every call, with the lists that go deepest: no clashes at all, and a ring. */
+static void *deepest(void *unused) {
+    static uint64_t none[64], ring[64];
+    static uint8_t own[64], sheet[SLOTSHEET_SHEET_BYTES], text[SLOTSHEET_LIST_BYTES];
+    for (int i = 0; i < 64; i++) ring[i] = (uint64_t)1 << (i + 1) % 64 | (uint64_t)1 << (i + 63) % 64;
+    CHECK(slotsheet_validity(ring, 64).refusal == SLOTSHEET_ACCEPTED);
+    CHECK(slotsheet_clique_bound(ring, 64).bound == 2);
+    CHECK(slotsheet_mycielskian_bound(ring, 64).bound == 2);
+    CHECK(slotsheet_plain(none, 64, own, 64, 100000).refusal == SLOTSHEET_BUDGET);
+    CHECK(slotsheet_fewest(none, 64, own, 64, SLOTSHEET_NODES).k == 1);
+    CHECK(slotsheet_fewest(ring, 64, own, 64, SLOTSHEET_NODES).k == 2);
+    struct slotsheet_writing list = slotsheet_write_list(ring, 64, text, sizeof text);
+    struct slotsheet_writing written = slotsheet_write_sheet(own, 64, sheet, sizeof sheet);
+    CHECK(slotsheet_read_list(text, list.length, none, 64).entries == 64);
+    CHECK(slotsheet_check_sheet(text, list.length, sheet, written.length, own, 64).groups == 2);
+    CHECK(slotsheet_fault_line(text, list.length, sheet, written.length, 64).text == SLOTSHEET_NONE);
+    return unused;
+}
+
+static void small_stack(void) {
+    pthread_attr_t made;
+    pthread_t thread;
+    CHECK(pthread_attr_init(&made) == 0);
+    CHECK(pthread_attr_setstacksize(&made, SLOTSHEET_STACK_BYTES) == 0);
+    CHECK(pthread_create(&thread, &made, deepest, NULL) == 0);
+    CHECK(pthread_join(thread, NULL) == 0);
+}
+
+static void sentences(void) {
+    for (size_t number = 0; number < 1000; number++) {
+        char sentence[256], with_entry[256];
+        const char *name = slotsheet_name(number);
+        if (name == NULL) continue;
+        slotsheet_sentence(number, 7, NULL, 0, sentence, sizeof sentence);
+        slotsheet_sentence(number, 7, (const uint8_t *)"12", 2, with_entry, sizeof with_entry);
+        printf("%zu %s: %s\n", number, name, sentence);
+        if (strcmp(sentence, with_entry) != 0) printf("%zu %s: %s\n", number, name, with_entry);
+    }
+}
+
+int main(int count, char **words) {
+    if (count > 1 && strcmp(words[1], "sentences") == 0) {
+        sentences();
+        return 0;
+    }
+    numbers();
+    nulls();
+    buffers();
+    small_stack();
+    CHECK(strcmp(slotsheet_version(), SLOTSHEET_VERSION) == 0);
+    CHECK(strcmp(slotsheet_name(SLOTSHEET_ONE_SIDED), "ONE-SIDED") == 0);
+    CHECK(slotsheet_name(999) == NULL);
+    printf("%d checks\n", checks);
+    return failed;
+}
