@@ -93,6 +93,8 @@ static void nulls(void) {
     CHECK(slotsheet_write_sheet(NULL, 0, NULL, 0).refusal == SLOTSHEET_FULL);
     CHECK(slotsheet_check_sheet(NULL, 0, NULL, 0, NULL, 0).text == SLOTSHEET_LIST);
     CHECK(slotsheet_fault_line(NULL, 0, NULL, 0, 0).length == 0);
+    CHECK(slotsheet_answer(NULL, 0, NULL, 0).refusal == SLOTSHEET_FULL);
+    CHECK(slotsheet_answer(NULL, 0, out, sizeof out).length == length("refused 11 line 1\n"));
     CHECK(slotsheet_sentence(SLOTSHEET_TWICE, 7, NULL, 0, NULL, 0) == length("line 7: the entry on this line stands in an earlier group"));
 }
 
@@ -127,6 +129,9 @@ static void *deepest(void *unused) {
     CHECK(slotsheet_read_list(text, list.length, none, 64).entries == 64);
     CHECK(slotsheet_check_sheet(text, list.length, sheet, written.length, own, 64).groups == 2);
     CHECK(slotsheet_fault_line(text, list.length, sheet, written.length, 64).text == SLOTSHEET_NONE);
+    static const uint8_t edgeless[] = "p edge 64 0\n";
+    CHECK(slotsheet_answer(edgeless, sizeof edgeless - 1, sheet, sizeof sheet).length == 200);
+    CHECK(memcmp(sheet, "groups 1\nsize 64\n1\n2\n", 21) == 0);
     return unused;
 }
 
