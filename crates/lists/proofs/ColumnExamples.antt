@@ -1,4 +1,5 @@
--- Document 02, Asks 1 and 2: where a line went bad, and what is a comment, by computing. Each text is the one line that its comment shows, with its line feed unless it says unended.
+-- Document 02, Asks 1 and 2: where a line went bad, and what is a comment, by computing. Each text is the one line that its comment shows, with its line
+-- feed unless it says unended.
 --
 --   at r c : refused with r, at line 1 and column c
 use Prim.Native.Nat.{ℕ}
