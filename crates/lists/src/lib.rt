@@ -245,9 +245,10 @@ fn stopped(w: &[u8], d: Due) -> Fault
 fn spot_along(s: &[u8], w: &[u8]) -> Spot
     ensures { λ r. ⌜ r ≡ spotFrom 0 (now (s .entry)) (patternOf (now (w .entry))) ⌝ }
 {
+    let n = s.len();
     let mut d = Due { at: 0, digits: 0 };
     let mut i: usize = 0;
-    while i < s.len() {
+    while i < n {
         match after(w, d, s[i]) {
             Onward::To(e) => {
                 d = e;
@@ -263,7 +264,7 @@ fn spot_along(s: &[u8], w: &[u8]) -> Spot
     }
     Spot {
         fault: stopped(w, d),
-        column: s.len() + 1,
+        column: n + 1,
     }
 }
 

@@ -16,10 +16,10 @@ use Rattle.lists.proofs.spot_along.Statement.{statement}
 use Rattle.lists.proofs.spot_along.Tie as tie
 
 abbrev Inv-loop : tie.InvT-loop
-Inv-loop s w d₀ i₀ d i = (i ≤ length s) × (spotFrom i (drop i s) (dueOf w d) ≡ spotFrom 0 s (patternOf w))
+Inv-loop s w n d₀ i₀ d i = (i ≤ length s) × (spotFrom i (drop i s) (dueOf w d) ≡ spotFrom 0 s (patternOf w))
 
 abbrev μ-loop : tie.MeasureT-loop
-μ-loop s w d₀ i₀ d i = length s - i
+μ-loop s w n d₀ i₀ d i = length s - i
 
 loop-holds : tie.Need-loop-holds Inv-loop μ-loop
 loop-holds c = (omega arith, refl)
@@ -82,8 +82,8 @@ loop-again c =
 stopped-requires : tie.Need-stopped-requires Inv-loop μ-loop
 stopped-requires c κs = search needs
 
-add-t18 : tie.Need-add-t18 Inv-loop μ-loop
-add-t18 c = search needs
+add-t17 : tie.Need-add-t17 Inv-loop μ-loop
+add-t17 c = search needs
 
 returns-2 : tie.Need-returns-2 Inv-loop μ-loop
 returns-2 c =
@@ -116,5 +116,5 @@ spot-along-spec =
     loop-less
     loop-again
     stopped-requires
-    add-t18
+    add-t17
     returns-2)
