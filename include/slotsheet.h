@@ -29,7 +29,7 @@ extern "C" {
 #endif
 
 /* tools/bindings writes from here on, from bindings/interface.txt */
-#define SLOTSHEET_VERSION "2.0.0"
+#define SLOTSHEET_VERSION "2.1.0"
 
 #define SLOTSHEET_ENTRIES 64          /* the most entries of a list */
 #define SLOTSHEET_BYTES 65536         /* the most bytes of a text that is read */
