@@ -69,7 +69,7 @@ pub fn sample(numbers: &mut Numbers) -> Sample {
     let n = rows.len();
     let mut list = list_text(numbers, &rows);
     let mut groups = division(numbers, &rows);
-    if chance(numbers, 30) {
+    if chance(numbers, 45) {
         misplace(numbers, &mut groups);
     }
     let mut sheet = sheet_text(&groups);
