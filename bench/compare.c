@@ -1,4 +1,4 @@
-/* Reads the clash text of standard input as often as it is told to, for a program that counts instructions: bench/reading. An answer of an older
+/* Reads the clash text of standard input as often as it is told to, for a program that counts instructions: bench/compare. An answer of an older
    library has fewer numbers than there is room for here. */
 #include <stddef.h>
 #include <stdint.h>
