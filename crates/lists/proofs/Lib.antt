@@ -1,5 +1,6 @@
 pub mod Shapes
 pub mod Fold
+pub mod Alike
 pub mod Copy
 pub mod Answers
 pub mod EdgeLaws

@@ -3,8 +3,10 @@
 use refusals::Refusal;
 ghost use mathlib.Core.Path.{_≡_};
 ghost use mathlib.Core.List.{_++_};
+ghost use mathlib.Core.Bool.{true, false, _&&_};
 ghost use Prim.Native.Nat.{_+_, _-_, _≤_, _<_};
 ghost use lib.ListN.{length, take, drop};
+ghost use Rattle.clashes.specs.Matrix.{matrix};
 ghost use Rattle.lines.specs.Numeral.{Put};
 ghost use Rattle.lists.specs.Shape.{shapeOf};
 ghost use Rattle.lists.specs.Read.{edgeOf, stepOf, mark, finish, readOf, refused as refusedAt};
@@ -20,7 +22,7 @@ pub enum Shape {
     Bad,
 }
 
-// Document 01's refusals of a clash text, 10 to 18, by their names.
+// Document 01's refusals of a clash text, 10 to 18, and document 02's 20, by their names.
 pub enum Fault {
     Line,
     Headless,
@@ -31,6 +33,7 @@ pub enum Fault {
     Count,
     Room,
     Long,
+    Repeat,
 }
 
 // Which refusal of document 01's table a fault is.
@@ -47,6 +50,7 @@ pub fn refusal_of(why: Fault) -> Refusal
         Fault::Count => Refusal::Count,
         Fault::Room => Refusal::Room,
         Fault::Long => Refusal::Long,
+        Fault::Repeat => Refusal::Repeat,
     }
 }
 
@@ -176,6 +180,17 @@ fn set_bit(g: &mut [u64; 64], i: usize, j: usize)
     g[i] = g[i] | (1u64 << j);
 }
 
+// Whether an edge is refused: where repeats are, one that the rows have. Either way round, since each edge is in both its rows.
+fn repeats(plain: bool, rows: &[u64; 64], i: usize, j: usize) -> bool
+    requires { ⌜ (i < 64) × (j < 64) ⌝ }
+    ensures { λ r. ⌜ r ≡ (plain && matrix (now (rows .entry)) i j) ⌝ }
+{
+    if plain {
+        return sets::has(rows[i], j);
+    }
+    false
+}
+
 // A refusal has no rows.
 fn refused(why: Fault, line: usize) -> Found
     ensures { λ r. ⌜ r ≡ refusedAt why line ⌝ }
@@ -202,9 +217,9 @@ fn ended(h: Head, rows: [u64; 64], line: usize) -> Found
     refused(Fault::Headless, line)
 }
 
-// Reads a text for so many lent rows, and hands its rows over by value.
-pub fn gather(text: &[u8], room: usize) -> Found
-    ensures { λ r. ⌜ r ≡ readOf (now (text .entry)) room ⌝ }
+// Reads a text for so many lent rows, and hands its rows over by value; repeats are refused where `plain` is true, else allowed.
+pub fn gather(text: &[u8], room: usize, plain: bool) -> Found
+    ensures { λ r. ⌜ r ≡ readOf plain (now (text .entry)) room ⌝ }
 {
     if LONGEST < text.len() {
         return refused(Fault::Long, 0);
@@ -231,6 +246,9 @@ pub fn gather(text: &[u8], room: usize) -> Found
                 h = g;
             }
             Step::Edge(g, i, j) => {
+                if repeats(plain, &rows, i, j) {
+                    return refused(Fault::Repeat, line);
+                }
                 h = g;
                 set_bit(&mut rows, i, j);
                 set_bit(&mut rows, j, i);
@@ -254,11 +272,11 @@ fn copy_rows(rows: &mut [u64], from: &[u64], n: usize)
     }
 }
 
-// Reads a clash text into the lent rows.
-pub fn read_list(text: &[u8], rows: &mut [u64]) -> Reading
-    ensures { λ r. ⌜ ReadPromise (now (text .entry)) (now (rows .entry)) r (now (rows .exit)) ⌝ }
+// Reads a clash text into the lent rows, by the one reading or the other.
+fn read(text: &[u8], rows: &mut [u64], plain: bool) -> Reading
+    ensures { λ r. ⌜ ReadPromise plain (now (text .entry)) (now (rows .entry)) r (now (rows .exit)) ⌝ }
 {
-    let found = gather(text, rows.len());
+    let found = gather(text, rows.len(), plain);
     let answer = found.answer;
     // no row is stored unless the whole text was accepted
     let mut stored: usize = 0;
@@ -268,6 +286,20 @@ pub fn read_list(text: &[u8], rows: &mut [u64]) -> Reading
     let list = found.rows;
     copy_rows(rows, &list, stored);
     answer
+}
+
+// Reads a clash text into the lent rows; an edge that stands a second time is refused.
+pub fn read_list(text: &[u8], rows: &mut [u64]) -> Reading
+    ensures { λ r. ⌜ ReadPromise true (now (text .entry)) (now (rows .entry)) r (now (rows .exit)) ⌝ }
+{
+    read(text, rows, true)
+}
+
+// The same with repeats allowed: M counts every e line.
+pub fn read_list_repeats(text: &[u8], rows: &mut [u64]) -> Reading
+    ensures { λ r. ⌜ ReadPromise false (now (text .entry)) (now (rows .entry)) r (now (rows .exit)) ⌝ }
+{
+    read(text, rows, false)
 }
 
 // Written, with the text's length; or refused by document 01's 1 to 4, with the row at fault, or by 19.

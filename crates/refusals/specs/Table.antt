@@ -13,7 +13,7 @@
 use mathlib.Core.Bool.{Bool, true, false}
 use Prim.Native.Nat.{ℕ}
 use Rattle.refusals.specs.declared.Refusal.{Refusal}
-use Rattle.refusals.specs.declared.Refusal.the-variants.{Many, Stray, Itself, OneSided, Short, Budget, Deep, Line, Headless, Second, Size, Vertex, Loop, Count, Room, Long, Full, SheetLine, Member, Order, Twice, Clash, Ends, Missing, Extra, Colours}
+use Rattle.refusals.specs.declared.Refusal.the-variants.{Many, Stray, Itself, OneSided, Short, Budget, Deep, Line, Headless, Second, Size, Vertex, Loop, Count, Room, Long, Full, Repeat, SheetLine, Member, Order, Twice, Clash, Ends, Missing, Extra, Colours}
 
 pub data Beside : Type 0 where
   nothing : Beside
@@ -48,6 +48,7 @@ entry Count = row 16 aLine
 entry Room = row 17 aLine
 entry Long = row 18 nothing
 entry Full = row 19 nothing
+entry Repeat = row 20 aLine
 entry SheetLine = row 30 aLine
 entry Member = row 31 aLine
 entry Order = row 32 aLine

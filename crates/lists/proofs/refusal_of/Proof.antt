@@ -30,6 +30,9 @@ enum-told-8 c = search needs
 enum-told-9 : tie.Need-enum-told-9
 enum-told-9 c = search needs
 
+enum-told-10 : tie.Need-enum-told-10
+enum-told-10 c = search needs
+
 returns : tie.Need-returns
 returns c = simp (c .enum-told .given .1)
 
@@ -57,6 +60,9 @@ returns-8 c = simp (c .enum-told8 .given .1)
 returns-9 : tie.Need-returns-9
 returns-9 c = simp (c .enum-told9 .given .1)
 
+returns-10 : tie.Need-returns-10
+returns-10 c = simp (c .enum-told10 .given .1)
+
 pub refusal-of-spec : {M : Type 1} → statement M
 refusal-of-spec =
     tie.close
@@ -70,6 +76,7 @@ refusal-of-spec =
     enum-told-7
     enum-told-8
     enum-told-9
+    enum-told-10
     returns
     returns-2
     returns-3
@@ -78,4 +85,5 @@ refusal-of-spec =
     returns-6
     returns-7
     returns-8
-    returns-9)
+    returns-9
+    returns-10)
