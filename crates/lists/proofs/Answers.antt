@@ -1,4 +1,4 @@
--- What was gathered, handed over: `read` stores so many rows as its answer accepts.
+-- What was gathered, handed over: `read_list` stores so many rows as its answer accepts.
 --
 --   stored a : how many rows an answer stores
 use Prim.Native.Nat.{ℕ, _≤_, zero-le}

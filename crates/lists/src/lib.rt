@@ -3,7 +3,7 @@
 use refusals::Refusal;
 ghost use mathlib.Core.Path.{_≡_};
 ghost use mathlib.Core.List.{_++_};
-ghost use mathlib.Core.Bool.{true, false, _&&_};
+ghost use mathlib.Core.Bool.{_&&_};
 ghost use Prim.Native.Nat.{_+_, _-_, _≤_, _<_};
 ghost use lib.ListN.{length, take, drop};
 ghost use Rattle.clashes.specs.Matrix.{matrix};
@@ -272,8 +272,8 @@ fn copy_rows(rows: &mut [u64], from: &[u64], n: usize)
     }
 }
 
-// Reads a clash text into the lent rows, by the one reading or the other.
-fn read(text: &[u8], rows: &mut [u64], plain: bool) -> Reading
+// Reads a clash text into the lent rows; repeats are refused where `plain` is true, else allowed.
+pub fn read_list(text: &[u8], rows: &mut [u64], plain: bool) -> Reading
     ensures { λ r. ⌜ ReadPromise plain (now (text .entry)) (now (rows .entry)) r (now (rows .exit)) ⌝ }
 {
     let found = gather(text, rows.len(), plain);
@@ -286,20 +286,6 @@ fn read(text: &[u8], rows: &mut [u64], plain: bool) -> Reading
     let list = found.rows;
     copy_rows(rows, &list, stored);
     answer
-}
-
-// Reads a clash text into the lent rows; an edge that stands a second time is refused.
-pub fn read_list(text: &[u8], rows: &mut [u64]) -> Reading
-    ensures { λ r. ⌜ ReadPromise true (now (text .entry)) (now (rows .entry)) r (now (rows .exit)) ⌝ }
-{
-    read(text, rows, true)
-}
-
-// The same with repeats allowed: M counts every e line.
-pub fn read_list_repeats(text: &[u8], rows: &mut [u64]) -> Reading
-    ensures { λ r. ⌜ ReadPromise false (now (text .entry)) (now (rows .entry)) r (now (rows .exit)) ⌝ }
-{
-    read(text, rows, false)
 }
 
 // Written, with the text's length; or refused by document 01's 1 to 4, with the row at fault, or by 19.
