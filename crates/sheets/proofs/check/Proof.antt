@@ -25,7 +25,7 @@ without-requires-2 c κs = search needs
 
 returns : tie.Need-returns
 returns c =
-    c .without2 .ensures ∙ sym (check-few mostEntries longestText (c .before .before .before .before .before .before .before .before .args .list .now)
+    c .without2 .ensures ∙ sym (check-few (c .before .before .before .before .before .before .before .before .args .plain) mostEntries longestText (c .before .before .before .before .before .before .before .before .args .list .now)
     (c .before .before .before .before .before .before .before .before .args .sheet .now) (c .before .before .before .before .before .before .before .before .args .room)
     _ (c .before .before .before .before .before .gather .ensures) _ (c .before .before .before .answer2 .given .1) (c .before .if1 .taken))
 
@@ -34,7 +34,7 @@ slice-aggregate-check-lines c = search needs
 
 check-lines-requires : tie.Need-check-lines-requires
 check-lines-requires c κs =
-    let h = read-small mostEntries longestText (c .before .before .before .before .before .before .before .before .before .args .list .now)
+    let h = read-small (c .before .before .before .before .before .before .before .before .before .args .plain) mostEntries longestText (c .before .before .before .before .before .before .before .before .before .args .list .now)
     (c .before .before .before .before .before .before .before .before .before .args .sheet .now)
     (c .before .before .before .before .before .before .before .before .before .args .room) _ (c .before .before .before .before .before .before .gather .ensures) _
     (c .before .before .before .before .answer2 .given .1) in
@@ -43,13 +43,13 @@ check-lines-requires c κs =
 
 returns-2 : tie.Need-returns-2
 returns-2 c =
-    c .without .ensures ∙ sym (check-unread mostEntries longestText (c .before .before .before .before .before .before .before .args .list .now)
+    c .without .ensures ∙ sym (check-unread (c .before .before .before .before .before .before .before .args .plain) mostEntries longestText (c .before .before .before .before .before .before .before .args .list .now)
     (c .before .before .before .before .before .before .before .args .sheet .now) (c .before .before .before .before .before .before .before .args .room) _
     (c .before .before .before .before .gather .ensures) _ _ (c .before .before .answer .given .1))
 
 returns-3 : tie.Need-returns-3
 returns-3 c =
-    c .check-lines .ensures ∙ sym (check-read mostEntries longestText (c .before .before .before .before .before .before .before .before .before .before .args .list .now)
+    c .check-lines .ensures ∙ sym (check-read (c .before .before .before .before .before .before .before .before .before .before .args .plain) mostEntries longestText (c .before .before .before .before .before .before .before .before .before .before .args .list .now)
     (c .before .before .before .before .before .before .before .before .before .before .args .sheet .now)
     (c .before .before .before .before .before .before .before .before .before .before .args .room) _
     (c .before .before .before .before .before .before .before .gather .ensures) _ (c .before .before .before .before .before .answer2 .given .1)

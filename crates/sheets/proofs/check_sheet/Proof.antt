@@ -20,7 +20,7 @@ copy-bytes-requires c κs =
     let a = c .before .before .before .before .before .before .before .args in
     let o = c .before .before .before .check in
     let f : Fits mostEntries longestText (length (a .colours .now)) (o .result) = subst (Fits mostEntries longestText (length (a .colours .now))) (sym (o .ensures))
-    (check-fits mostEntries longestText (a .list .now) (a .sheet .now) (length (a .colours .now))) in
+    (check-fits (a .plain) mostEntries longestText (a .list .now) (a .sheet .now) (length (a .colours .now))) in
     let z : length (o .result .colours) ≡ 64 = search needs in
     (omega arith, f .fits)
 
@@ -29,7 +29,7 @@ same-length c = search needs
 
 returns : tie.Need-returns
 returns c =
-    check-handed mostEntries longestText (c .before .before .before .before .before .before .before .before .before .before .args .list .now)
+    check-handed (c .before .before .before .before .before .before .before .before .before .before .args .plain) mostEntries longestText (c .before .before .before .before .before .before .before .before .before .before .args .list .now)
     (c .before .before .before .before .before .before .before .before .before .before .args .sheet .now)
     (c .before .before .before .before .before .before .before .before .before .before .args .colours .now) _
     (c .before .before .before .before .before .before .check .result) (c .before .before .before .before .before .before .check .ensures)
