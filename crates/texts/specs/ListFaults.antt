@@ -1,29 +1,31 @@
 -- The refusals of a clash text in document 01's words, over its lines as they stand.
 --
 --   PBefore t k n        : a p line that says n entries stands before line k
---   Has most t room k f  : line k of the lines t has the fault numbered f, where so many rows are lent and a list may have `most` entries
+--   Has plain most t room k f : line k of the lines t has the fault numbered f, where so many rows are lent and a list may have `most` entries; a
+--                          repeat is one where `plain` is true
 --   listOrder            : the order within a line
 --   Lacks t f            : at the end, the lines t have the fault numbered f
---   ListRefused most longest s room f k : the clash text s is refused with the number f and the line k
+--   ListRefused plain most longest s room f k : the clash text s is refused with the number f and the line k
 --
 -- Assumes nothing.
 use Prim.Native.Nat.{ℕ, _<_}
 use mathlib.Core.Path.{_≡_}
 use mathlib.Core.Logic.{_⊎_}
 use mathlib.Core.List.{List, [], _∷_}
-use lib.Dec.{eqb}
+use mathlib.Core.Bool.{Bool}
+use lib.Dec.{T, eqb}
 use Rattle.refusals.specs.Table.{numberOf, If}
-use Rattle.refusals.specs.declared.Refusal.the-variants.{Line, Headless, Second, Size, Vertex, Loop, Count, Room}
+use Rattle.refusals.specs.declared.Refusal.the-variants.{Line, Headless, Second, Size, Vertex, Loop, Count, Room, Repeat}
 use Rattle.lines.specs.Text.{Text, linesOf}
 use Rattle.lists.specs.declared.Shape.the-variants.{P, E, Bad}
 use Rattle.texts.specs.Faults.{Unended, Outside, Refusal}
-use Rattle.texts.specs.Listed.{At, edgeLines}
+use Rattle.texts.specs.Listed.{At, RepeatAt, edgeLines}
 
 abbrev pub PBefore : Text → ℕ → ℕ → Type 0
 PBefore t k n = (j m : ℕ) × (j < k) × At t j (P n m)
 
-abbrev pub Has : ℕ → Text → ℕ → ℕ → ℕ → Type 0
-Has most t room k f =
+abbrev pub Has : Bool → ℕ → Text → ℕ → ℕ → ℕ → Type 0
+Has plain most t room k f =
     -- line of no permitted shape, or last line without its line feed
     If (eqb f (numberOf Line)) (At t k Bad ⊎ Unended t k)
     -- an e line before any p line
@@ -38,10 +40,12 @@ Has most t room k f =
     (If (eqb f (numberOf Vertex)) ((u v n : ℕ) × At t k (E u v) × PBefore t k n × (Outside n u ⊎ Outside n v))
     -- both ends equal
     (If (eqb f (numberOf Loop)) ((u : ℕ) × At t k (E u u))
-    ⊥))))))
+    -- where repeats are refused: an edge that stands in an earlier line, either way round
+    (If (eqb f (numberOf Repeat)) (T plain × RepeatAt t k)
+    ⊥)))))))
 
 abbrev pub listOrder : List ℕ
-listOrder = 10 ∷ 11 ∷ 12 ∷ 13 ∷ 17 ∷ 14 ∷ 15 ∷ []
+listOrder = 10 ∷ 11 ∷ 12 ∷ 13 ∷ 17 ∷ 14 ∷ 15 ∷ 20 ∷ []
 
 abbrev pub Lacks : Text → ℕ → Type 0
 Lacks t f =
@@ -51,5 +55,5 @@ Lacks t f =
     (If (eqb f (numberOf Count)) ((k n m : ℕ) × At t k (P n m) × ¬ (edgeLines t ≡ m))
     ⊥)
 
-abbrev pub ListRefused : ℕ → ℕ → List ℕ → ℕ → ℕ → ℕ → Type 0
-ListRefused most longest s room f k = Refusal longest s (Has most (linesOf s) room) listOrder (Lacks (linesOf s)) f k
+abbrev pub ListRefused : Bool → ℕ → ℕ → List ℕ → ℕ → ℕ → ℕ → Type 0
+ListRefused plain most longest s room f k = Refusal longest s (Has plain most (linesOf s) room) listOrder (Lacks (linesOf s)) f k
