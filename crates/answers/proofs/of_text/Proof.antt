@@ -35,7 +35,7 @@ line-requires c κs = search needs
 few : (c : tie.After-known-told) → c .before .answer .given .0 .0 ≤ 64
 few c =
     let g = c .before .before .before .before in
-    list-few (g .before .before .args .text .now) (g .gather .result) (g .gather .ensures) _ (c .before .answer .given .1)
+    list-few (g .before .before .args .plain) (g .before .before .args .text .now) (g .gather .result) (g .gather .ensures) _ (c .before .answer .given .1)
 
 rows-long : (c : tie.After-known-told) → length (c .before .before .before .before .gather .result .rows) ≡ 64
 rows-long c = search needs
@@ -49,13 +49,13 @@ slice-aggregate-of-rows c = simp (length-take) (omega (arith, few (c .before), r
 of-rows-requires : tie.Need-of-rows-requires
 of-rows-requires c κs =
     let g = c .before .before .before .before .before in
-    list-sound (g .before .before .args .text .now) (g .gather .result) (g .gather .ensures) _ (c .before .before .answer .given .1)
+    list-sound (g .before .before .args .plain) (g .before .before .args .text .now) (g .gather .result) (g .gather .ensures) _ (c .before .before .answer .given .1)
 
 returns : tie.Need-returns
 returns c =
     let g = c .before .before .before .before .before .before in
     subst (λ (x : List ℕ). IsText x (c .of-rows .result))
-    (sym (printed-read (g .before .before .args .text .now) (g .gather .result) (g .gather .ensures) _ (c .before .before .before .answer .given .1))) (c .of-rows .ensures)
+    (sym (printed-read (g .before .before .args .plain) (g .before .before .args .text .now) (g .gather .result) (g .gather .ensures) _ (c .before .before .before .answer .given .1))) (c .of-rows .ensures)
 
 refused-requires : tie.Need-refused-requires
 refused-requires c κs =
@@ -65,7 +65,7 @@ refused-requires c κs =
     let g = a .before .before .before in
     let e = ap (λ x. x .answer) (sym (g .gather .ensures)) ∙ a .answer2 .given .1 in (
       omega (arith, n .number .ensures, number-small (r .refusal-of .result)),
-      omega (arith, c .line .ensures, line-small (g .before .before .args .text .now) 64 _ _ (r .refusal-of .result) e),
+      omega (arith, c .line .ensures, line-small (g .before .before .args .plain) (g .before .before .args .text .now) 64 _ _ (r .refusal-of .result) e),
     )
 
 returns-2 : tie.Need-returns-2
@@ -78,7 +78,7 @@ returns-2 c =
     let k = a .answer2 .given .0 .1 .0 in
     let t = c .refused .result in
     subst (λ (x : List ℕ). IsText x t)
-    (sym (printed-refused (g .before .before .args .text .now) (g .gather .result) (g .gather .ensures) _ _ (a .answer2 .given .1)))
+    (sym (printed-refused (g .before .before .args .plain) (g .before .before .args .text .now) (g .gather .result) (g .gather .ensures) _ _ (a .answer2 .given .1)))
     (subst (λ (q : Refusal). IsText (refusedText (numberOf q) (told q k .line)) t) (r .refusal-of .ensures)
     (subst (λ (m : ℕ). IsText (refusedText (numberOf (r .refusal-of .result)) m) t) (l .line .ensures)
     (subst (λ (m : ℕ). IsText (refusedText m (l .line .result)) t) (n .number .ensures) (c .refused .ensures))))
