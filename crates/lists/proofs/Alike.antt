@@ -11,12 +11,13 @@ use lib.ListN.{length}
 use Rattle.clashes.specs.Matrix.{matrix}
 use Rattle.lines.specs.Text.{Text, done, unended, ended, linesOf}
 use Rattle.lists.specs.Shape.{shapeOf}
+use Rattle.lists.specs.Expect.{spotOf}
 use Rattle.lists.specs.Read.{noRowsUpTo, refusedUpTo, stepUpTo, join, afterUpTo, readFromUpTo, start, readUpTo}
 use Rattle.lists.specs.declared.Fault.the-variants.{Long, Repeat}
 use Rattle.lists.specs.declared.Head.{Head}
 use Rattle.lists.specs.declared.Found.{Found}
 use Rattle.lists.specs.declared.Step.{Step}
-use Rattle.lists.specs.declared.Step.the-variants.{Stop, Go, Edge}
+use Rattle.lists.specs.declared.Step.the-variants.{StopAt, Stop, Go, Edge}
 
 module _ (most : ℕ) where
   abbrev pub Alike : Found → Found → Type 0
@@ -29,10 +30,11 @@ module _ (most : ℕ) where
   from-alike : (t : Text) (room k : ℕ) (h : Head) (g : List ℕ) → Both t room k h g
   from-alike done room k h g = inl refl
   from-alike (unended l) room k h g = inl refl
-  from-alike (ended l t) room k h g = go (stepUpTo most h room (shapeOf l)) (from-alike t room (k + 1))
+  from-alike (ended l t) room k h g = go (stepUpTo most h room (spotOf l) (shapeOf l)) (from-alike t room (k + 1))
     where
       go : (st : Step) → ((h : Head) (g : List ℕ) → Both t room (k + 1) h g)
           → Alike (afterUpTo true most st g k (readFromUpTo true most t room (k + 1))) (afterUpTo false most st g k (readFromUpTo false most t room (k + 1)))
+      go (StopAt p) r = inl refl
       go (Stop f) r = inl refl
       go (Go x) r = r x g
       go (Edge x i j) r = pick (matrix g i j) (r x (join g i j))

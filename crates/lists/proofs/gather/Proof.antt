@@ -2,10 +2,14 @@
 use Prim.Native.Nat.{_≤_, _<_, _+_, _-_}
 use mathlib.Core.Path.{_≡_, ap, sym, refl, _∙_}
 use mathlib.Core.Logic.{⊎-elim}
+use mathlib.Core.List.{List}
 use lib.ListN.{length, take, drop}
 use Rattle.lines.specs.Text.{linesOf}
+use Rattle.lines.proofs.Basics.{rest}
 use Rattle.lists.specs.Shape.{shapeOf}
-use Rattle.lists.specs.Read.{mostEntries, longestText, noRows, readFrom, start, stepOf}
+use Rattle.lists.specs.Expect.{spotOf}
+use Rattle.lists.specs.Read.{mostEntries, longestText, noRows, refusedAt, readFrom, start, stepOf}
+use Rattle.lists.specs.declared.Spot.{Spot}
 use Rattle.lists.proofs.Fold.{read-halts, read-ends, read-short, read-long, turn, Turned, ends-below, repeated, turned-go, turned-edge}
 use borrow.Author.Needs.{needs}
 use native.Mathlib.Omega.{arith}
@@ -26,21 +30,22 @@ closed c = omega arith
 
 -- the line's step is the definition's
 stepped : (c : tie.After-apply Inv-loop μ-loop) →
-    let b = c .before .before .before .before .before .before in
+    let b = c .before .before .before .before .before in
     let a = b .before .before .before .args in
-    stepOf (b .loop .h) (a .room) (shapeOf (take (c .before .before .before .before .line-end .result - b .loop .at) (drop (b .loop .at) (a .text .now)))) ≡ c .apply .result
-stepped c = sym (c .apply .ensures ∙ ap (stepOf _ _) (c .before .shape-of .ensures))
+    let l = take (c .before .before .before .line-end .result - b .loop .at) (drop (b .loop .at) (a .text .now)) in
+    stepOf (b .loop .h) (a .room) (spotOf l) (shapeOf l) ≡ c .apply .result
+stepped c = sym (c .apply .ensures)
 
 turned : (c : tie.At-match-came Inv-loop μ-loop) →
-    let b = c .before .before .before .before .before .before .before in
+    let b = c .before .before .before .before .before .before in
     let a = b .before .before .before .args in
-    let e = c .before .before .before .before .before .line-end in
-    Turned (a .plain) mostEntries (a .text .now) (a .room) (b .loop .at) (e .result) (b .loop .line) (b .loop .h) (b .loop .rows) (e .ensures .0) (closed (c .before .before .before .before)) (c .match .h) (c .match .rows)
+    let e = c .before .before .before .before .line-end in
+    Turned (a .plain) mostEntries (a .text .now) (a .room) (b .loop .at) (e .result) (b .loop .line) (b .loop .h) (b .loop .rows) (e .ensures .0) (closed (c .before .before .before)) (c .match .h) (c .match .rows)
 turned c =
-    let b = c .before .before .before .before .before .before .before in
+    let b = c .before .before .before .before .before .before in
     let a = b .before .before .before .args in
-    let e = c .before .before .before .before .before .line-end in
-    let l = closed (c .before .before .before .before) in
+    let e = c .before .before .before .before .line-end in
+    let l = closed (c .before .before .before) in
     ⊎-elim
     (λ w. turned-go (a .plain) mostEntries (a .text .now) (a .room) (b .loop .at) (e .result) (b .loop .line) (b .loop .h) (b .loop .rows) (e .ensures .0) l (b .loop .inv .5) (b .loop .inv .4)
     (w .1 .given .0 .0) (stepped (c .before) ∙ w .1 .given .1) _ _ (w .3) (w .4))
@@ -50,12 +55,12 @@ turned c =
     (c .match .came)
 
 -- an edge's ends are rows
-below : (c : tie.After-known-told3 Inv-loop μ-loop) → (c .before .g2 .given .0 .1 .0 < 64) × (c .before .g2 .given .0 .1 .1 .0 < 64)
+below : (c : tie.After-known-told4 Inv-loop μ-loop) → (c .before .g2 .given .0 .1 .0 < 64) × (c .before .g2 .given .0 .1 .1 .0 < 64)
 below c =
-    let b = c .before .before .before .before .before .before .before .before .before .loop in
-    let a = c .before .before .before .before .before .before .before .before .before .before .before .before .args in
+    let b = c .before .before .before .before .before .before .before .before .loop in
+    let a = c .before .before .before .before .before .before .before .before .before .before .before .args in
     ends-below (a .plain) mostEntries (a .text .now) (a .room) (b .at) _ (b .line) (b .h) (b .rows)
-    (c .before .before .before .before .before .before .before .line-end .ensures .0) (closed (c .before .before .before .before .before .before)) (b .inv .5) (b .inv .4) _ _ _
+    (c .before .before .before .before .before .before .line-end .ensures .0) (closed (c .before .before .before .before .before)) (b .inv .5) (b .inv .4) _ _ _
     (stepped (c .before .before .before) ∙ c .before .g2 .given .1)
 
 refused-requires : tie.Need-refused-requires Inv-loop μ-loop
@@ -70,43 +75,67 @@ loop-holds c = (omega arith, omega arith, omega arith, omega arith, omega arith,
 line-end-requires : tie.Need-line-end-requires Inv-loop μ-loop
 line-end-requires c κs = search needs
 
-refused-requires-2 : tie.Need-refused-requires-2 Inv-loop μ-loop
-refused-requires-2 c κs = search needs
+sub-spot-of : tie.Need-sub-spot-of Inv-loop μ-loop
+sub-spot-of c = search needs
+
+part-spot-of-start : tie.Need-part-spot-of-start Inv-loop μ-loop
+part-spot-of-start c = search needs
+
+part-spot-of-end : tie.Need-part-spot-of-end Inv-loop μ-loop
+part-spot-of-end c = search needs
+
+spot-of-requires : tie.Need-spot-of-requires Inv-loop μ-loop
+spot-of-requires c κs = search needs
+
+refused-at-requires : tie.Need-refused-at-requires Inv-loop μ-loop
+refused-at-requires c κs = search needs
 
 returns-2 : tie.Need-returns-2 Inv-loop μ-loop
 returns-2 c =
-    let b = c .before .before .before .before .loop in
-    let a = c .before .before .before .before .before .before .before .args in
-    c .refused2 .ensures ∙ sym (read-halts (a .plain) mostEntries (a .text .now) (a .room) (b .at) _ _ (b .h) (b .rows) (c .before .before .line-end .ensures .0)
-    (c .before .before .before .loop-test .taken) (c .before .if2 .taken)) ∙ b .inv .6 ∙ read-short (a .plain) mostEntries longestText (a .text .now) (a .room) (b .inv .1)
+    let b = c .before .before .before .before .before .before .loop in
+    let a = c .before .before .before .before .before .before .before .before .before .args in
+    c .refused-at .ensures
+    ∙ ap (λ (p : Spot). refusedAt p (b .line)) (c .before .spot-of .ensures ∙ ap spotOf (rest (a .text .now) (b .at)))
+    ∙ sym (read-halts (a .plain) mostEntries (a .text .now) (a .room) (b .at) _ _ (b .h) (b .rows) (c .before .before .before .before .line-end .ensures .0) (c .before .before .before .before .before .loop-test .taken) (c .before .before .before .if2 .taken))
+    ∙ b .inv .6
+    ∙ read-short (a .plain) mostEntries longestText (a .text .now) (a .room) (b .inv .1)
 
-sub-shape-of : tie.Need-sub-shape-of Inv-loop μ-loop
-sub-shape-of c = search needs
+sub-apply : tie.Need-sub-apply Inv-loop μ-loop
+sub-apply c = search needs
 
-part-shape-of-start : tie.Need-part-shape-of-start Inv-loop μ-loop
-part-shape-of-start c = search needs
+part-apply-start : tie.Need-part-apply-start Inv-loop μ-loop
+part-apply-start c = search needs
 
-part-shape-of-end : tie.Need-part-shape-of-end Inv-loop μ-loop
-part-shape-of-end c = search needs
-
-shape-of-requires : tie.Need-shape-of-requires Inv-loop μ-loop
-shape-of-requires c κs = search needs
+part-apply-end : tie.Need-part-apply-end Inv-loop μ-loop
+part-apply-end c = search needs
 
 apply-requires : tie.Need-apply-requires Inv-loop μ-loop
 apply-requires c κs = search needs
 
-enum-known-why : tie.Need-enum-known-why Inv-loop μ-loop
-enum-known-why c = search needs
+enum-known-spot : tie.Need-enum-known-spot Inv-loop μ-loop
+enum-known-spot c = search needs
 
-refused-requires-3 : tie.Need-refused-requires-3 Inv-loop μ-loop
-refused-requires-3 c κs = search needs
+refused-at-requires-2 : tie.Need-refused-at-requires-2 Inv-loop μ-loop
+refused-at-requires-2 c κs = search needs
 
 returns-3 : tie.Need-returns-3 Inv-loop μ-loop
 returns-3 c =
-    let b = c .before .before .before .before .before .before .before .before .before .before .loop in
-    let a = c .before .before .before .before .before .before .before .before .before .before .before .before .before .args in
-    c .refused3 .ensures ∙ sym (turn (a .plain) mostEntries (a .text .now) (a .room) (b .at) _ _ (b .h) (b .rows)
-    (c .before .before .before .before .before .before .before .before .line-end .ensures .0) (closed (c .before .before .before .before .before .before .before)) _
+    let b = c .before .before .before .before .before .before .before .before .before .loop in
+    let a = c .before .before .before .before .before .before .before .before .before .before .before .before .args in
+    c .refused-at2 .ensures ∙ sym (turn (a .plain) mostEntries (a .text .now) (a .room) (b .at) _ _ (b .h) (b .rows) (c .before .before .before .before .before .before .before .line-end .ensures .0) (closed (c .before .before .before .before .before .before)) _
+    (stepped (c .before .before .before .before) ∙ c .before .before .spot .given .1)) ∙ b .inv .6 ∙ read-short (a .plain) mostEntries longestText (a .text .now) (a .room) (b .inv .1)
+
+enum-known-why : tie.Need-enum-known-why Inv-loop μ-loop
+enum-known-why c = search needs
+
+refused-requires-2 : tie.Need-refused-requires-2 Inv-loop μ-loop
+refused-requires-2 c κs = search needs
+
+returns-4 : tie.Need-returns-4 Inv-loop μ-loop
+returns-4 c =
+    let b = c .before .before .before .before .before .before .before .before .before .loop in
+    let a = c .before .before .before .before .before .before .before .before .before .before .before .before .args in
+    c .refused2 .ensures ∙ sym (turn (a .plain) mostEntries (a .text .now) (a .room) (b .at) _ _ (b .h) (b .rows) (c .before .before .before .before .before .before .before .line-end .ensures .0) (closed (c .before .before .before .before .before .before)) _
     (stepped (c .before .before .before .before) ∙ c .before .before .why .given .1)) ∙ b .inv .6 ∙ read-short (a .plain) mostEntries longestText (a .text .now) (a .room) (b .inv .1)
 
 enum-known-g : tie.Need-enum-known-g Inv-loop μ-loop
@@ -118,16 +147,16 @@ enum-known-g-2 c = search needs
 repeats-requires : tie.Need-repeats-requires Inv-loop μ-loop
 repeats-requires c κs = below (c .before)
 
-refused-requires-4 : tie.Need-refused-requires-4 Inv-loop μ-loop
-refused-requires-4 c κs = search needs
+refused-requires-3 : tie.Need-refused-requires-3 Inv-loop μ-loop
+refused-requires-3 c κs = search needs
 
-returns-4 : tie.Need-returns-4 Inv-loop μ-loop
-returns-4 c =
+returns-5 : tie.Need-returns-5 Inv-loop μ-loop
+returns-5 c =
     let d = c .before .before .before .before in
-    let b = d .before .before .before .before .before .before .before .before .before .loop in
-    let a = d .before .before .before .before .before .before .before .before .before .before .before .before .args in
-    c .refused4 .ensures ∙ sym (repeated (a .plain) mostEntries (a .text .now) (a .room) (b .at) _ (b .line) (b .h) (b .rows)
-    (d .before .before .before .before .before .before .before .line-end .ensures .0) (closed (d .before .before .before .before .before .before)) (b .inv .5) (b .inv .4) _ _ _
+    let b = d .before .before .before .before .before .before .before .before .loop in
+    let a = d .before .before .before .before .before .before .before .before .before .before .before .args in
+    c .refused3 .ensures ∙ sym (repeated (a .plain) mostEntries (a .text .now) (a .room) (b .at) _ (b .line) (b .h) (b .rows)
+    (d .before .before .before .before .before .before .line-end .ensures .0) (closed (d .before .before .before .before .before)) (b .inv .5) (b .inv .4) _ _ _
     (stepped (d .before .before .before) ∙ d .before .g2 .given .1) (sym (c .before .before .repeats .ensures) ∙ c .before .if3 .taken))
     ∙ b .inv .6 ∙ read-short (a .plain) mostEntries longestText (a .text .now) (a .room) (b .inv .1)
 
@@ -138,25 +167,25 @@ set-bit-requires-2 : tie.Need-set-bit-requires-2 Inv-loop μ-loop
 set-bit-requires-2 c κs = let w = below (c .before .before .before .before .before .before) in (w .1, w .0)
 
 add-at : tie.Need-add-at Inv-loop μ-loop
-add-at c = omega (arith, c .before .before .before .before .before .line-end .ensures .0)
+add-at c = omega (arith, c .before .before .before .before .line-end .ensures .0)
 
 add-line : tie.Need-add-line Inv-loop μ-loop
 add-line c = search needs
 
 loop-less : tie.Need-loop-less Inv-loop μ-loop
-loop-less c = omega (arith, c .before .before .before .before .before .line-end .ensures .0)
+loop-less c = omega (arith, c .before .before .before .before .line-end .ensures .0)
 
 loop-again : tie.Need-loop-again Inv-loop μ-loop
 loop-again c =
     let t = turned c in
-    let e = c .before .before .before .before .before .line-end .ensures in
-    (omega arith, omega arith, omega arith, omega (arith, t .counted), t .few, t .size, t .same ∙ c .before .before .before .before .before .before .before .loop .inv .6)
+    let e = c .before .before .before .before .line-end .ensures in
+    (omega arith, omega arith, omega arith, omega (arith, t .counted), t .few, t .size, t .same ∙ c .before .before .before .before .before .before .loop .inv .6)
 
 ended-requires : tie.Need-ended-requires Inv-loop μ-loop
 ended-requires c κs = search needs
 
-returns-5 : tie.Need-returns-5 Inv-loop μ-loop
-returns-5 c =
+returns-6 : tie.Need-returns-6 Inv-loop μ-loop
+returns-6 c =
     let b = c .before .before .loop in
     let a = c .before .before .before .before .before .args in
     c .ended .ensures ∙ sym (read-ends (a .plain) mostEntries (a .text .now) (a .room) (b .at) _ (b .h) (b .rows) (c .before .loop-test .left)) ∙ b .inv .6 ∙ read-short (a .plain) mostEntries longestText (a .text .now) (a .room) (b .inv .1)
@@ -171,21 +200,27 @@ gather-spec =
     returns
     loop-holds
     line-end-requires
-    refused-requires-2
+    sub-spot-of
+    part-spot-of-start
+    part-spot-of-end
+    spot-of-requires
+    refused-at-requires
     returns-2
-    sub-shape-of
-    part-shape-of-start
-    part-shape-of-end
-    shape-of-requires
+    sub-apply
+    part-apply-start
+    part-apply-end
     apply-requires
-    enum-known-why
-    refused-requires-3
+    enum-known-spot
+    refused-at-requires-2
     returns-3
+    enum-known-why
+    refused-requires-2
+    returns-4
     enum-known-g
     enum-known-g-2
     repeats-requires
-    refused-requires-4
-    returns-4
+    refused-requires-3
+    returns-5
     set-bit-requires
     set-bit-requires-2
     add-at
@@ -193,4 +228,4 @@ gather-spec =
     loop-less
     loop-again
     ended-requires
-    returns-5)
+    returns-6)

@@ -84,6 +84,15 @@ enum-told-26 c = search needs
 enum-told-27 : tie.Need-enum-told-27
 enum-told-27 c = search needs
 
+enum-told-28 : tie.Need-enum-told-28
+enum-told-28 c = search needs
+
+enum-told-29 : tie.Need-enum-told-29
+enum-told-29 c = search needs
+
+enum-told-30 : tie.Need-enum-told-30
+enum-told-30 c = search needs
+
 returns : tie.Need-returns
 returns c = simp (c .enum-told .given .1)
 
@@ -165,6 +174,15 @@ returns-26 c = simp (c .enum-told26 .given .1)
 returns-27 : tie.Need-returns-27
 returns-27 c = simp (c .enum-told27 .given .1)
 
+returns-28 : tie.Need-returns-28
+returns-28 c = simp (c .enum-told28 .given .1)
+
+returns-29 : tie.Need-returns-29
+returns-29 c = simp (c .enum-told29 .given .1)
+
+returns-30 : tie.Need-returns-30
+returns-30 c = simp (c .enum-told30 .given .1)
+
 pub line-spec : {M : Type 1} → statement M
 line-spec =
     tie.close
@@ -196,6 +214,9 @@ line-spec =
     enum-told-25
     enum-told-26
     enum-told-27
+    enum-told-28
+    enum-told-29
+    enum-told-30
     returns
     returns-2
     returns-3
@@ -222,4 +243,7 @@ line-spec =
     returns-24
     returns-25
     returns-26
-    returns-27)
+    returns-27
+    returns-28
+    returns-29
+    returns-30)

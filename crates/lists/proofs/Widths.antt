@@ -1,0 +1,99 @@
+-- The column that a refusal names is at most one past its line, and so at most one more than the text has bytes.
+--
+--   columnOf a : the column that the answer a names, 0 for none
+--   widest t   : the length of the longest of the lines t
+--
+-- Assumes nothing.
+use Prim.Native.Nat.{ℕ, suc, _+_, _≤_, max, zero-le}
+use mathlib.Core.Path.{_≡_, subst}
+use mathlib.Core.List.{List, [], _∷_}
+use mathlib.Core.Bool.{Bool, true, false, _&&_}
+use native.Mathlib.Omega.{arith}
+use lib.Dec.{leb, eqb}
+use lib.ListN.{length}
+use Rattle.clashes.specs.Matrix.{matrix}
+use Rattle.lines.specs.Text.{Text, done, unended, ended, put, feed, linesOf}
+use Rattle.lines.proofs.Basics.{cond-cases}
+use Rattle.lists.specs.Shape.{shapeOf}
+use Rattle.lists.specs.Expect.{spotOf}
+use Rattle.lists.specs.Read.{noRowsUpTo, inside, edgeOf, stepUpTo, join, afterUpTo, readFromUpTo, start, readUpTo}
+use Rattle.lists.specs.declared.Shape.{Shape}
+use Rattle.lists.specs.declared.Shape.the-variants.{Comment, P, E, Bad}
+use Rattle.lists.specs.declared.Fault.{Fault}
+use Rattle.lists.specs.declared.Head.{Head}
+use Rattle.lists.specs.declared.Found.{Found}
+use Rattle.lists.specs.declared.Reading.{Reading}
+use Rattle.lists.specs.declared.Reading.the-variants.{Read, Refused}
+use Rattle.lists.specs.declared.Spot.{Spot}
+use Rattle.lists.specs.declared.Step.{Step}
+use Rattle.lists.specs.declared.Step.the-variants.{StopAt, Stop, Go, Edge}
+use Rattle.lists.proofs.Columns.{spot-astray}
+
+abbrev columnOf : Reading → ℕ
+columnOf (Read n) = 0
+columnOf (Refused f k c) = c
+
+abbrev widest : Text → ℕ
+widest done = 0
+widest (unended l) = length l
+widest (ended l t) = max (length l) (widest t)
+
+-- ---- a line
+
+abbrev Narrow : ℕ → Step → Type 0
+Narrow n (StopAt p) = p .column ≤ n
+Narrow n (Stop f) = Unit {0}
+Narrow n (Go h) = Unit {0}
+Narrow n (Edge h i j) = Unit {0}
+
+edge-narrow : (n : ℕ) (h : Head) (u v : ℕ) → Narrow n (edgeOf h u v)
+edge-narrow n h u v =
+    cond-cases (Narrow n) (inside (h .n) u) _ _
+    (λ _. cond-cases (Narrow n) (inside (h .n) v) _ _ (λ _. cond-cases (Narrow n) (eqb u v) _ _ (λ _. tt) (λ _. tt)) (λ _. tt)) (λ _. tt)
+
+module _ (most : ℕ) where
+  step-narrow : (n : ℕ) (h : Head) (room : ℕ) (p : Spot) (s : Shape) → p .column ≤ n → Narrow n (stepUpTo most h room p s)
+  step-narrow n h room p Bad a = a
+  step-narrow n h room p Comment a = tt
+  step-narrow n h room p (P i j) a =
+      cond-cases (Narrow n) (h .seen) _ _ (λ _. tt)
+      (λ _. cond-cases (Narrow n) (leb i most) _ _ (λ _. cond-cases (Narrow n) (leb i room) _ _ (λ _. tt) (λ _. tt)) (λ _. tt))
+  step-narrow n h room p (E u v) a = cond-cases (Narrow n) (h .seen) _ _ (λ _. edge-narrow n h u v) (λ _. tt)
+
+  -- ---- the lines
+
+  from-narrow : (plain : Bool) (t : Text) (room k : ℕ) (h : Head) (g : List ℕ) → columnOf (readFromUpTo plain most t room k h g .answer) ≤ widest t + 1
+  from-narrow plain done room k h g =
+      let F : Found → Type 0 = λ x. columnOf (x .answer) ≤ 1 in
+      cond-cases F (h .seen) _ _ (λ _. cond-cases F (eqb (h .count) (h .m)) _ _ (λ _. zero-le) (λ _. zero-le)) (λ _. zero-le)
+  from-narrow plain (unended l) room k h g = spot-astray l .within .1
+  from-narrow plain (ended l t) room k h g =
+      go (stepUpTo most h room (spotOf l) (shapeOf l)) (step-narrow (length l + 1) h room (spotOf l) (shapeOf l) (spot-astray l .within .1)) (from-narrow plain t room (k + 1))
+    where
+      go : (st : Step) → Narrow (length l + 1) st → ((x : Head) (y : List ℕ) → columnOf (readFromUpTo plain most t room (k + 1) x y .answer) ≤ widest t + 1)
+          → columnOf (afterUpTo plain most st g k (readFromUpTo plain most t room (k + 1)) .answer) ≤ max (length l) (widest t) + 1
+      go (StopAt p) d r = omega arith
+      go (Stop f) d r = zero-le
+      go (Go x) d r = omega (arith, r x g)
+      go (Edge x i j) d r =
+          cond-cases (λ (y : Found). columnOf (y .answer) ≤ max (length l) (widest t) + 1) (plain && matrix g i j) _ _ (λ _. zero-le) (λ _. omega (arith, r x (join g i j)))
+
+widest-put : (b : ℕ) (t : Text) → widest (put b t) ≤ suc (widest t)
+widest-put b done = omega arith
+widest-put b (unended l) = omega arith
+widest-put b (ended l t) = omega arith
+
+widest-le : (s : List ℕ) → widest (linesOf s) ≤ length s
+widest-le [] = zero-le
+widest-le (b ∷ s) = go (eqb b 10) (widest-le s)
+  where
+    go : (y : Bool) → widest (linesOf s) ≤ length s → widest (feed y b (linesOf s)) ≤ suc (length s)
+    go true r = omega arith
+    go false r = omega (arith, widest-put b (linesOf s))
+
+-- ---- the law
+
+pub read-column : (plain : Bool) (most longest : ℕ) (s : List ℕ) (room : ℕ) (f : Fault) (k c : ℕ) → readUpTo plain most longest s room .answer ≡ Refused f k c → c ≤ length s + 1
+read-column plain most longest s room f k c e =
+    subst (λ (a : Reading). columnOf a ≤ length s + 1) e (cond-cases (λ (x : Found). columnOf (x .answer) ≤ length s + 1) (leb (length s) longest) _ _
+    (λ _. omega (arith, from-narrow most plain (linesOf s) room 1 start (noRowsUpTo most), widest-le s)) (λ _. zero-le))
