@@ -63,7 +63,7 @@ module _ (plain : Bool) (most longest : ℕ) where
   check-fits list s room = go (readUpTo plain most longest list most .answer) (read-up-to-few plain most longest list most)
     where
       go : (a : Reading) → Bounded most a → Fits most longest room (againstUpTo most longest a (readUpTo plain most longest list most .rows) s room)
-      go (Unreadable f k) b = record { few = omega arith; fits = omega arith; copied = λ old. refl }
+      go (Unreadable f k c) b = record { few = omega arith; fits = omega arith; copied = λ old. refl }
       go (Read n) b =
           cond-cases (Fits most longest room) (leb n room) _ _ (λ e. sheet-fits most longest room n b (leb-true n room e) (matrix (readUpTo plain most longest list most .rows)) s)
           (λ _. record { few = omega arith; fits = omega arith; copied = λ old. refl })
@@ -100,8 +100,8 @@ module _ (plain : Bool) (most longest : ℕ) where
     pub read-small : (n : ℕ) → f .answer ≡ Read n → n ≤ most
     read-small n x = subst (Bounded most) (answer-is x) (read-up-to-few plain most longest list most)
 
-    pub check-unread : (w : Fault) (k : ℕ) → f .answer ≡ Unreadable w k → checkUpTo plain most longest list s room ≡ withoutUpTo most (Unread w k)
-    check-unread w k x = ap (λ (a : Reading). againstUpTo most longest a (readUpTo plain most longest list most .rows) s room) (answer-is x)
+    pub check-unread : (w : Fault) (k c : ℕ) → f .answer ≡ Unreadable w k c → checkUpTo plain most longest list s room ≡ withoutUpTo most (Unread w k c)
+    check-unread w k c x = ap (λ (a : Reading). againstUpTo most longest a (readUpTo plain most longest list most .rows) s room) (answer-is x)
 
     pub check-few : (n : ℕ) → f .answer ≡ Read n → room < n → checkUpTo plain most longest list s room ≡ withoutUpTo most Short
     check-few n x l = ap (λ (a : Reading). againstUpTo most longest a (readUpTo plain most longest list most .rows) s room) (answer-is x) ∙ rw (lt-leb n room l)
