@@ -17,13 +17,16 @@ use Rattle.lists.specs.Shape.{shapeOf, isE}
 use Rattle.lists.specs.declared.Shape.{Shape}
 use Rattle.lists.specs.declared.Shape.the-variants.{Comment, P, E, Bad}
 use Rattle.lists.specs.declared.Fault.{Fault}
-use Rattle.lists.specs.declared.Fault.the-variants.{Line, Headless, Second, Size, Room, Vertex, Loop, Count, Long, Repeat}
+use Rattle.lists.specs.declared.Fault.the-variants.{Line, Headless, Second, Size, Room, Vertex, Loop, Count, Long, Repeat, Digit, Space, Unended as NoFeed}
 use Rattle.lists.specs.declared.Head.{Head}
+use Rattle.lists.specs.Expect.{ofShape, spotOf}
 use Rattle.lists.specs.Promise.{numberOf}
+use Rattle.lists.proofs.Columns.{spot-shape}
 use Rattle.texts.specs.Faults.{Unended, Outside, place, Clean}
 use Rattle.texts.specs.Listed.{At, RepeatAt, edgeLines}
 use Rattle.texts.specs.ListFaults.{PBefore, Has, listOrder}
 use Rattle.texts.proofs.ListFaultLaws.{Found, has-fault, clean-of}
+use Rattle.texts.proofs.ListShapes.{shape-clean, bad-has, shape-found}
 use Rattle.texts.proofs.ListLines.{Rest, rest-next, unended-none}
 
 -- ---- what is known
@@ -67,11 +70,19 @@ module _ (plain : Bool) (most : ℕ) (t0 : Text) (room i : ℕ) (h : Head) (l : 
 
   -- ---- by the line's shape
 
-  pub bad : shapeOf l ≡ Bad → Found plain most t0 room Line (i + 1)
-  bad e = stop Line (inl (subst (At t0 (i + 1)) e here)) (λ g p. absurd (omega arith))
+  pub bad : shapeOf l ≡ Bad → Found plain most t0 room (spotOf l .fault) (i + 1)
+  bad e =
+      shape-found plain most t0 room (i + 1) (spotOf l .fault) (spot-shape l) (bad-has t0 (i + 1) plain most room l (told .rest .lines 1 (omega arith)) here e)
+      (here .0) (λ j p. told .clean j (omega arith))
+
+  comment-not-bad : shapeOf l ≡ Comment → (f : Fault) → T (ofShape f) → ¬ Has plain most t0 room (i + 1) (numberOf f)
+  comment-not-bad e = shape-clean t0 (i + 1) plain most room (λ a. let z : _≡_ {A = ℕ} 0 1 = cc (same Bad a) in omega arith) closed
 
   clean-comment : shapeOf l ≡ Comment → (f : Fault) → ¬ Has plain most t0 room (i + 1) (numberOf f)
-  clean-comment e Line x = ⊎-elim (λ a. let z : _≡_ {A = ℕ} 0 1 = cc (same Bad a) in omega arith) closed x
+  clean-comment e Line x = comment-not-bad e Line tt x
+  clean-comment e Digit x = comment-not-bad e Digit tt x
+  clean-comment e Space x = comment-not-bad e Space tt x
+  clean-comment e NoFeed x = comment-not-bad e NoFeed tt x
   clean-comment e Headless x = let z : _≡_ {A = ℕ} 0 1 = cc (same _ (x .0 .2)) in omega arith
   clean-comment e Second x = let z : _≡_ {A = ℕ} 0 1 = cc (same _ (x .0 .2)) in omega arith
   clean-comment e Size x = let z : _≡_ {A = ℕ} 0 1 = cc (same _ (x .2)) in omega arith
@@ -90,8 +101,8 @@ module _ (plain : Bool) (most : ℕ) (t0 : Text) (room i : ℕ) (h : Head) (l : 
     p-is : (a b : ℕ) → At t0 (i + 1) (P a b) → (a ≡ n) × (b ≡ m)
     p-is a b x = let q : P a b ≡ P n m = sym (same _ x) ∙ e in (cc, cc)
 
-    p-not-bad : ¬ Has plain most t0 room (i + 1) (numberOf Line)
-    p-not-bad x = ⊎-elim (λ a. let z : _≡_ {A = ℕ} 0 1 = cc (same Bad a) in omega arith) closed x
+    p-not-bad : (f : Fault) → T (ofShape f) → ¬ Has plain most t0 room (i + 1) (numberOf f)
+    p-not-bad = shape-clean t0 (i + 1) plain most room (λ a. let z : _≡_ {A = ℕ} 0 1 = cc (same Bad a) in omega arith) closed
 
     p-not-e : (u v : ℕ) → ¬ At t0 (i + 1) (E u v)
     p-not-e u v x = let z : _≡_ {A = ℕ} 0 1 = cc (same _ x) in omega arith
@@ -109,7 +120,10 @@ module _ (plain : Bool) (most : ℕ) (t0 : Text) (room i : ℕ) (h : Head) (l : 
     second q = stop Second ((n, m, p-here), (h .n, one-before q)) low
       where
         low : (g : Fault) → place listOrder (numberOf g) < place listOrder (numberOf Second) → ¬ Has plain most t0 room (i + 1) (numberOf g)
-        low Line p x = p-not-bad x
+        low Line p x = p-not-bad Line tt x
+        low Digit p x = p-not-bad Digit tt x
+        low Space p x = p-not-bad Space tt x
+        low NoFeed p x = p-not-bad NoFeed tt x
         low Headless p x = p-not-e (x .0 .0) (x .0 .1) (x .0 .2)
         low Second p x = omega arith
         low Size p x = omega arith
@@ -124,7 +138,10 @@ module _ (plain : Bool) (most : ℕ) (t0 : Text) (room i : ℕ) (h : Head) (l : 
     large q b = stop Size (n, m, p-here, b) low
       where
         low : (g : Fault) → place listOrder (numberOf g) < place listOrder (numberOf Size) → ¬ Has plain most t0 room (i + 1) (numberOf g)
-        low Line p x = p-not-bad x
+        low Line p x = p-not-bad Line tt x
+        low Digit p x = p-not-bad Digit tt x
+        low Space p x = p-not-bad Space tt x
+        low NoFeed p x = p-not-bad NoFeed tt x
         low Headless p x = p-not-e (x .0 .0) (x .0 .1) (x .0 .2)
         low Second p x = p-first q x
         low Size p x = omega arith
@@ -139,7 +156,10 @@ module _ (plain : Bool) (most : ℕ) (t0 : Text) (room i : ℕ) (h : Head) (l : 
     roomless q b d = stop Room (n, m, p-here, d) low
       where
         low : (g : Fault) → place listOrder (numberOf g) < place listOrder (numberOf Room) → ¬ Has plain most t0 room (i + 1) (numberOf g)
-        low Line p x = p-not-bad x
+        low Line p x = p-not-bad Line tt x
+        low Digit p x = p-not-bad Digit tt x
+        low Space p x = p-not-bad Space tt x
+        low NoFeed p x = p-not-bad NoFeed tt x
         low Headless p x = p-not-e (x .0 .0) (x .0 .1) (x .0 .2)
         low Second p x = p-first q x
         low Size p x = p-small b x
@@ -151,7 +171,10 @@ module _ (plain : Bool) (most : ℕ) (t0 : Text) (room i : ℕ) (h : Head) (l : 
         low Long p x = omega arith
 
     clean-p : h .seen ≡ false → n ≤ most → n ≤ room → (f : Fault) → ¬ Has plain most t0 room (i + 1) (numberOf f)
-    clean-p q b d Line x = p-not-bad x
+    clean-p q b d Line x = p-not-bad Line tt x
+    clean-p q b d Digit x = p-not-bad Digit tt x
+    clean-p q b d Space x = p-not-bad Space tt x
+    clean-p q b d NoFeed x = p-not-bad NoFeed tt x
     clean-p q b d Headless x = p-not-e (x .0 .0) (x .0 .1) (x .0 .2)
     clean-p q b d Second x = p-first q x
     clean-p q b d Size x = p-small b x
@@ -170,8 +193,8 @@ module _ (plain : Bool) (most : ℕ) (t0 : Text) (room i : ℕ) (h : Head) (l : 
     e-is : (a b : ℕ) → At t0 (i + 1) (E a b) → (a ≡ u) × (b ≡ v)
     e-is a b x = let q : E a b ≡ E u v = sym (same _ x) ∙ e in (cc, cc)
 
-    e-not-bad : ¬ Has plain most t0 room (i + 1) (numberOf Line)
-    e-not-bad x = ⊎-elim (λ a. let z : _≡_ {A = ℕ} 0 1 = cc (same Bad a) in omega arith) closed x
+    e-not-bad : (f : Fault) → T (ofShape f) → ¬ Has plain most t0 room (i + 1) (numberOf f)
+    e-not-bad = shape-clean t0 (i + 1) plain most room (λ a. let z : _≡_ {A = ℕ} 0 1 = cc (same Bad a) in omega arith) closed
 
     e-not-p : (a b : ℕ) → ¬ At t0 (i + 1) (P a b)
     e-not-p a b x = let z : _≡_ {A = ℕ} 0 1 = cc (same _ x) in omega arith
@@ -180,7 +203,10 @@ module _ (plain : Bool) (most : ℕ) (t0 : Text) (room i : ℕ) (h : Head) (l : 
     headless q = stop Headless ((u, v, e-here), none-before q) low
       where
         low : (g : Fault) → place listOrder (numberOf g) < place listOrder (numberOf Headless) → ¬ Has plain most t0 room (i + 1) (numberOf g)
-        low Line p x = e-not-bad x
+        low Line p x = e-not-bad Line tt x
+        low Digit p x = e-not-bad Digit tt x
+        low Space p x = e-not-bad Space tt x
+        low NoFeed p x = e-not-bad NoFeed tt x
         low Headless p x = omega arith
         low Second p x = omega arith
         low Size p x = omega arith
@@ -198,7 +224,10 @@ module _ (plain : Bool) (most : ℕ) (t0 : Text) (room i : ℕ) (h : Head) (l : 
     vertex q o = stop Vertex (u, v, h .n, e-here, one-before q, o) low
       where
         low : (g : Fault) → place listOrder (numberOf g) < place listOrder (numberOf Vertex) → ¬ Has plain most t0 room (i + 1) (numberOf g)
-        low Line p x = e-not-bad x
+        low Line p x = e-not-bad Line tt x
+        low Digit p x = e-not-bad Digit tt x
+        low Space p x = e-not-bad Space tt x
+        low NoFeed p x = e-not-bad NoFeed tt x
         low Headless p x = headed q x
         low Second p x = e-not-p (x .0 .0) (x .0 .1) (x .0 .2)
         low Size p x = e-not-p (x .0) (x .1) (x .2)
@@ -220,7 +249,10 @@ module _ (plain : Bool) (most : ℕ) (t0 : Text) (room i : ℕ) (h : Head) (l : 
     loop q a b s = stop Loop (u, subst (λ (y : ℕ). At t0 (i + 1) (E u y)) (sym s) e-here) low
       where
         low : (g : Fault) → place listOrder (numberOf g) < place listOrder (numberOf Loop) → ¬ Has plain most t0 room (i + 1) (numberOf g)
-        low Line p x = e-not-bad x
+        low Line p x = e-not-bad Line tt x
+        low Digit p x = e-not-bad Digit tt x
+        low Space p x = e-not-bad Space tt x
+        low NoFeed p x = e-not-bad NoFeed tt x
         low Headless p x = headed q x
         low Second p x = e-not-p (x .0 .0) (x .0 .1) (x .0 .2)
         low Size p x = e-not-p (x .0) (x .1) (x .2)
@@ -233,7 +265,10 @@ module _ (plain : Bool) (most : ℕ) (t0 : Text) (room i : ℕ) (h : Head) (l : 
 
     -- different entries of the list: no fault but a repeat
     only-repeat : h .seen ≡ true → (1 ≤ u) × (u ≤ h .n) → (1 ≤ v) × (v ≤ h .n) → (u ≡ v → ⊥) → (f : Fault) → Has plain most t0 room (i + 1) (numberOf f) → numberOf f ≡ numberOf Repeat
-    only-repeat q a b d Line x = absurd (e-not-bad x)
+    only-repeat q a b d Line x = absurd (e-not-bad Line tt x)
+    only-repeat q a b d Digit x = absurd (e-not-bad Digit tt x)
+    only-repeat q a b d Space x = absurd (e-not-bad Space tt x)
+    only-repeat q a b d NoFeed x = absurd (e-not-bad NoFeed tt x)
     only-repeat q a b d Headless x = absurd (headed q x)
     only-repeat q a b d Second x = absurd (e-not-p (x .0 .0) (x .0 .1) (x .0 .2))
     only-repeat q a b d Size x = absurd (e-not-p (x .0) (x .1) (x .2))

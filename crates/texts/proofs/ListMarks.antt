@@ -80,18 +80,18 @@ module _ (most : ℕ) (t0 : Text) (i : ℕ) (h : Head) (l : List ℕ) (t : Text)
     hv : v - 1 < length g
     hv = omega (arith, y .0, y .1, m .few, m .size)
 
-    -- a repeat is an edge that the rows have
+    -- an edge that the rows have is a repeat
+    pub there-repeat : T (matrix g (u - 1) (v - 1)) → RepeatAt t0 (i + 1)
+    there-repeat s =
+        let w = m .from (u - 1) (v - 1) s in
+        (u, v, w .0, this, omega (arith, w .1), ⊎-elim (λ z. inl (at-ends t0 (w .0) _ _ _ _ eu ev z)) (λ z. inr (at-ends t0 (w .0) _ _ _ _ ev eu z)) (w .2))
+
     pub repeat-there : RepeatAt t0 (i + 1) → T (matrix g (u - 1) (v - 1))
     repeat-there r =
         let z = that (r .0) (r .1) (r .3) in
         let a : r .0 ≡ u - 1 + 1 = z .0 ∙ sym eu in
         let b : r .1 ≡ v - 1 + 1 = z .1 ∙ sym ev in
         m .to (u - 1) (v - 1) (r .2, omega (arith, r .4), ⊎-elim (λ w. inl (at-ends t0 (r .2) _ _ _ _ a b w)) (λ w. inr (at-ends t0 (r .2) _ _ _ _ b a w)) (r .5))
-
-    pub there-repeat : T (matrix g (u - 1) (v - 1)) → RepeatAt t0 (i + 1)
-    there-repeat s =
-        let w = m .from (u - 1) (v - 1) s in
-        (u, v, w .0, this, omega (arith, w .1), ⊎-elim (λ z. inl (at-ends t0 (w .0) _ _ _ _ eu ev z)) (λ z. inr (at-ends t0 (w .0) _ _ _ _ ev eu z)) (w .2))
 
     pub marked-edge : (z : Head) → z .n ≡ h .n → Marked most t0 (i + 1) z (join g (u - 1) (v - 1))
     marked-edge z q = record {
