@@ -1,11 +1,11 @@
--- WHAT THE ANSWERS TO TEXTS MEAN. Read this file first. `ReadPromise plain s old a new` (lists) and `CheckPromise plain list s old a new` (sheets) are what the calls
--- are proved to meet: a is the answer, `old` what was lent, `new` what it holds afterwards. Each theorem says what follows from them, for every text and
--- every lent memory, over the texts' lines as they stand; no reading is in the words that it is said with. They are in specs/:
+-- WHAT THE ANSWERS TO TEXTS MEAN. Read this file first. `ReadPromise plain s old a new` (lists) and `CheckPromise plain list s old a new` (sheets) are
+-- what the calls are proved to meet: a is the answer, `old` what was lent, `new` what it holds afterwards. Each theorem says what follows from them, for
+-- every text and every lent memory, over the texts' lines as they stand; no reading is in the words that it is said with. They are in specs/:
 --
---   ListOf plain most longest s n rows    (Listed)      : the text s is a list of n entries, and the n rows are its clashes
+--   ListOf plain most longest s n rows          (Listed)      : the text s is a list of n entries, and the n rows are its clashes
 --   ListRefused plain most longest s room f k c (ListFaults)  : the text s is refused with the number f, the line k and the column c
---   SheetOf longest n clash s k c         (Sheets)      : the sheet s is the text of c, a clash-free division of n entries into k groups
---   SheetRefused longest n clash s f k    (SheetFaults) : the sheet s is refused with the number f and the line k
+--   SheetOf longest n clash s k c               (Sheets)      : the sheet s is the text of c, a clash-free division of n entries into k groups
+--   SheetRefused longest n clash s f k          (SheetFaults) : the sheet s is refused with the number f and the line k
 --
 -- `plain` is true for the plain reading, which refuses a repeat, and false for the other, which allows it: each theorem is about both. That both answer
 -- alike to what is written, and wherever the plain one refuses no repeat, is `calls-alike` and `reads-alike` of lists/proofs/Calls.antt.
