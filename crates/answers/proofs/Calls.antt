@@ -8,7 +8,7 @@ use mathlib.Core.Bool.{Bool, true, false}
 use mathlib.Core.Logic.{_⊎_, inl, inr, ⊎-elim}
 use native.Mathlib.Omega.{arith}
 use lib.ListN.{length, take, replicate, length-replicate}
-use Rattle.refusals.specs.Table.{numberOf, told}
+use Rattle.refusals.specs.Table.{numberOf}
 use Rattle.refusals.specs.declared.Refusal.the-variants as refusal
 use Rattle.bounds.specs.Names.{mycielskian}
 use Rattle.zykov.specs.Walk.{boundedWalk}
@@ -24,15 +24,15 @@ use Rattle.lists.specs.declared.Reading.{Reading}
 use Rattle.lists.specs.declared.Reading.the-variants.{Read, Refused}
 use Rattle.sheet_texts.specs.Sheet.{sheetText}
 use Rattle.sheet_texts.proofs.OwnList.{read-up-to-again, rows-are, rows-count}
-use Rattle.answers.specs.Printed.{budget, refusedText, rowsText, readText, printed, Writes, AnswerPromise, LongPromise}
+use Rattle.answers.specs.Printed.{budget, refusedText, toldText, rowsText, readText, printed, Writes, AnswerPromise, LongPromise}
 use Rattle.answers.specs.declared.Printed.{Printed}
 use Rattle.answers.proofs.Laws.{printed-read, printed-refused, rows-accepted, rows-spent}
 
 -- the text is refused
-pub refusal-printed : (plain : Bool) (text lent : List ℕ) (f : Fault) (k : ℕ) (rows : List ℕ) → length lent ≡ 64 → ReadPromise plain text lent (Refused f k) rows
-    → printed plain text ≡ refusedText (numberOf (refusalOf f)) (told (refusalOf f) k .line)
-refusal-printed plain text lent f k rows z x =
-    printed-refused plain text (readOf plain text 64) refl f k (sym (subst (λ (room : ℕ). Refused f k ≡ readOf plain text room .answer) z (x .answer)))
+pub refusal-printed : (plain : Bool) (text lent : List ℕ) (f : Fault) (k c : ℕ) (rows : List ℕ) → length lent ≡ 64 → ReadPromise plain text lent (Refused f k c) rows
+    → printed plain text ≡ toldText (refusalOf f) k c
+refusal-printed plain text lent f k c rows z x =
+    printed-refused plain text (readOf plain text 64) refl f k c (sym (subst (λ (room : ℕ). Refused f k c ≡ readOf plain text room .answer) z (x .answer)))
 
 -- the text is read
 module _ (plain : Bool) (text lent : List ℕ) (n : ℕ) (rows : List ℕ) (x : ReadPromise plain text lent (Read n) rows) where
@@ -48,7 +48,7 @@ module _ (plain : Bool) (text lent : List ℕ) (n : ℕ) (rows : List ℕ) (x : 
       list-printed ∙ rows-accepted (take n rows) before k m l after p ∙ ap (λ (i : ℕ). sheetText (take i after)) (rows-count plain text lent n rows x)
 
   pub spent-printed : (before : List ℕ) (m : ℕ) (after : List ℕ) → Promised (boundedWalk mycielskian) (take n rows) before budget (Budget m) after
-      → printed plain text ≡ refusedText (numberOf refusal.Budget) 0
+      → printed plain text ≡ refusedText (numberOf refusal.Budget) 0 0
   spent-printed before m after p = list-printed ∙ rows-spent (take n rows) before (p .0 .more)
 
 -- ---- the two readings

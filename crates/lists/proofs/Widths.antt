@@ -1,6 +1,6 @@
--- The column that a refusal names is at most one past its line, and so at most one more than the text has bytes.
+-- The column that a refusal names is at most one past its line, and so at most one more than the text has bytes; and a fault of shape names one.
 --
---   columnOf a : the column that the answer a names, 0 for none
+--   Placed n a : the column that the answer a names is at most n, and at least 1 where it refuses for a fault of shape
 --   widest t   : the length of the longest of the lines t
 --
 -- Assumes nothing.
@@ -9,13 +9,13 @@ use mathlib.Core.Path.{_≡_, subst}
 use mathlib.Core.List.{List, [], _∷_}
 use mathlib.Core.Bool.{Bool, true, false, _&&_}
 use native.Mathlib.Omega.{arith}
-use lib.Dec.{leb, eqb}
+use lib.Dec.{T, leb, eqb}
 use lib.ListN.{length}
 use Rattle.clashes.specs.Matrix.{matrix}
 use Rattle.lines.specs.Text.{Text, done, unended, ended, put, feed, linesOf}
 use Rattle.lines.proofs.Basics.{cond-cases}
 use Rattle.lists.specs.Shape.{shapeOf}
-use Rattle.lists.specs.Expect.{spotOf}
+use Rattle.lists.specs.Expect.{ofShape, spotOf}
 use Rattle.lists.specs.Read.{noRowsUpTo, inside, edgeOf, stepUpTo, join, afterUpTo, readFromUpTo, start, readUpTo}
 use Rattle.lists.specs.declared.Shape.{Shape}
 use Rattle.lists.specs.declared.Shape.the-variants.{Comment, P, E, Bad}
@@ -29,9 +29,9 @@ use Rattle.lists.specs.declared.Step.{Step}
 use Rattle.lists.specs.declared.Step.the-variants.{StopAt, Stop, Go, Edge}
 use Rattle.lists.proofs.Columns.{spot-astray}
 
-abbrev columnOf : Reading → ℕ
-columnOf (Read n) = 0
-columnOf (Refused f k c) = c
+abbrev Placed : ℕ → Reading → Type 0
+Placed n (Read m) = Unit {0}
+Placed n (Refused f k c) = (c ≤ n) × (T (ofShape f) → 1 ≤ c)
 
 abbrev widest : Text → ℕ
 widest done = 0
@@ -41,42 +41,47 @@ widest (ended l t) = max (length l) (widest t)
 -- ---- a line
 
 abbrev Narrow : ℕ → Step → Type 0
-Narrow n (StopAt p) = p .column ≤ n
-Narrow n (Stop f) = Unit {0}
+Narrow n (StopAt p) = (1 ≤ p .column) × (p .column ≤ n)
+Narrow n (Stop f) = ¬ T (ofShape f)
 Narrow n (Go h) = Unit {0}
 Narrow n (Edge h i j) = Unit {0}
 
 edge-narrow : (n : ℕ) (h : Head) (u v : ℕ) → Narrow n (edgeOf h u v)
 edge-narrow n h u v =
     cond-cases (Narrow n) (inside (h .n) u) _ _
-    (λ _. cond-cases (Narrow n) (inside (h .n) v) _ _ (λ _. cond-cases (Narrow n) (eqb u v) _ _ (λ _. tt) (λ _. tt)) (λ _. tt)) (λ _. tt)
+    (λ _. cond-cases (Narrow n) (inside (h .n) v) _ _ (λ _. cond-cases (Narrow n) (eqb u v) _ _ (λ _ x. x) (λ _. tt)) (λ _ x. x)) (λ _ x. x)
 
 module _ (most : ℕ) where
-  step-narrow : (n : ℕ) (h : Head) (room : ℕ) (p : Spot) (s : Shape) → p .column ≤ n → Narrow n (stepUpTo most h room p s)
+  step-narrow : (n : ℕ) (h : Head) (room : ℕ) (p : Spot) (s : Shape) → (1 ≤ p .column) × (p .column ≤ n) → Narrow n (stepUpTo most h room p s)
   step-narrow n h room p Bad a = a
   step-narrow n h room p Comment a = tt
   step-narrow n h room p (P i j) a =
-      cond-cases (Narrow n) (h .seen) _ _ (λ _. tt)
-      (λ _. cond-cases (Narrow n) (leb i most) _ _ (λ _. cond-cases (Narrow n) (leb i room) _ _ (λ _. tt) (λ _. tt)) (λ _. tt))
-  step-narrow n h room p (E u v) a = cond-cases (Narrow n) (h .seen) _ _ (λ _. edge-narrow n h u v) (λ _. tt)
+      cond-cases (Narrow n) (h .seen) _ _ (λ _ x. x)
+      (λ _. cond-cases (Narrow n) (leb i most) _ _ (λ _. cond-cases (Narrow n) (leb i room) _ _ (λ _. tt) (λ _ x. x)) (λ _ x. x))
+  step-narrow n h room p (E u v) a = cond-cases (Narrow n) (h .seen) _ _ (λ _. edge-narrow n h u v) (λ _ x. x)
 
   -- ---- the lines
 
-  from-narrow : (plain : Bool) (t : Text) (room k : ℕ) (h : Head) (g : List ℕ) → columnOf (readFromUpTo plain most t room k h g .answer) ≤ widest t + 1
-  from-narrow plain done room k h g =
-      let F : Found → Type 0 = λ x. columnOf (x .answer) ≤ 1 in
-      cond-cases F (h .seen) _ _ (λ _. cond-cases F (eqb (h .count) (h .m)) _ _ (λ _. zero-le) (λ _. zero-le)) (λ _. zero-le)
-  from-narrow plain (unended l) room k h g = spot-astray l .within .1
-  from-narrow plain (ended l t) room k h g =
-      go (stepUpTo most h room (spotOf l) (shapeOf l)) (step-narrow (length l + 1) h room (spotOf l) (shapeOf l) (spot-astray l .within .1)) (from-narrow plain t room (k + 1))
+  placed-more : (m n : ℕ) (a : Reading) → m ≤ n → Placed m a → Placed n a
+  placed-more m n (Read k) h x = tt
+  placed-more m n (Refused f k c) h x = (omega (arith, x .0), x .1)
+
+  from-placed : (plain : Bool) (t : Text) (room k : ℕ) (h : Head) (g : List ℕ) → Placed (widest t + 1) (readFromUpTo plain most t room k h g .answer)
+  from-placed plain done room k h g =
+      let F : Found → Type 0 = λ x. Placed 1 (x .answer) in
+      cond-cases F (h .seen) _ _ (λ _. cond-cases F (eqb (h .count) (h .m)) _ _ (λ _. tt) (λ _. (zero-le, λ x. absurd x))) (λ _. (zero-le, λ x. absurd x))
+  from-placed plain (unended l) room k h g = let w = spot-astray l .within in (w .1, λ _. w .0)
+  from-placed plain (ended l t) room k h g =
+      go (stepUpTo most h room (spotOf l) (shapeOf l)) (step-narrow (length l + 1) h room (spotOf l) (shapeOf l) (spot-astray l .within)) (from-placed plain t room (k + 1))
     where
-      go : (st : Step) → Narrow (length l + 1) st → ((x : Head) (y : List ℕ) → columnOf (readFromUpTo plain most t room (k + 1) x y .answer) ≤ widest t + 1)
-          → columnOf (afterUpTo plain most st g k (readFromUpTo plain most t room (k + 1)) .answer) ≤ max (length l) (widest t) + 1
-      go (StopAt p) d r = omega arith
-      go (Stop f) d r = zero-le
-      go (Go x) d r = omega (arith, r x g)
+      go : (st : Step) → Narrow (length l + 1) st → ((x : Head) (y : List ℕ) → Placed (widest t + 1) (readFromUpTo plain most t room (k + 1) x y .answer))
+          → Placed (max (length l) (widest t) + 1) (afterUpTo plain most st g k (readFromUpTo plain most t room (k + 1)) .answer)
+      go (StopAt p) d r = (omega (arith, d .1), λ _. d .0)
+      go (Stop f) d r = (zero-le, λ x. absurd (d x))
+      go (Go x) d r = placed-more (widest t + 1) (max (length l) (widest t) + 1) (readFromUpTo plain most t room (k + 1) x g .answer) (omega arith) (r x g)
       go (Edge x i j) d r =
-          cond-cases (λ (y : Found). columnOf (y .answer) ≤ max (length l) (widest t) + 1) (plain && matrix g i j) _ _ (λ _. zero-le) (λ _. omega (arith, r x (join g i j)))
+          cond-cases (λ (y : Found). Placed (max (length l) (widest t) + 1) (y .answer)) (plain && matrix g i j) _ _ (λ _. (zero-le, λ x. absurd x))
+          (λ _. placed-more (widest t + 1) (max (length l) (widest t) + 1) (readFromUpTo plain most t room (k + 1) x (join g i j) .answer) (omega arith) (r x (join g i j)))
 
 widest-put : (b : ℕ) (t : Text) → widest (put b t) ≤ suc (widest t)
 widest-put b done = omega arith
@@ -93,7 +98,10 @@ widest-le (b ∷ s) = go (eqb b 10) (widest-le s)
 
 -- ---- the law
 
-pub read-column : (plain : Bool) (most longest : ℕ) (s : List ℕ) (room : ℕ) (f : Fault) (k c : ℕ) → readUpTo plain most longest s room .answer ≡ Refused f k c → c ≤ length s + 1
+pub read-column : (plain : Bool) (most longest : ℕ) (s : List ℕ) (room : ℕ) (f : Fault) (k c : ℕ) → readUpTo plain most longest s room .answer ≡ Refused f k c
+    → (c ≤ length s + 1) × (T (ofShape f) → 1 ≤ c)
 read-column plain most longest s room f k c e =
-    subst (λ (a : Reading). columnOf a ≤ length s + 1) e (cond-cases (λ (x : Found). columnOf (x .answer) ≤ length s + 1) (leb (length s) longest) _ _
-    (λ _. omega (arith, from-narrow most plain (linesOf s) room 1 start (noRowsUpTo most), widest-le s)) (λ _. zero-le))
+    subst (Placed (length s + 1)) e (cond-cases (λ (x : Found). Placed (length s + 1) (x .answer)) (leb (length s) longest) _ _
+    (λ _. placed-more most (widest (linesOf s) + 1) (length s + 1) (readFromUpTo plain most (linesOf s) room 1 start (noRowsUpTo most) .answer) (omega (arith, widest-le s))
+    (from-placed most plain (linesOf s) room 1 start (noRowsUpTo most)))
+    (λ _. (zero-le, λ x. absurd x)))
