@@ -26,9 +26,9 @@ pub accepted-alike : (text lent : List ℕ) (n : ℕ) (b : Reading) (new other :
 accepted-alike = lists.accepted-alike
 
 pub read-alike : (text lent : List ℕ) (a b : Reading) (new other : List ℕ) → ReadPromise true text lent a new → ReadPromise false text lent b other
-    → ((k : ℕ) → ¬ (a ≡ Refused Repeat k)) → (a ≡ b) × (new ≡ other)
+    → ((k : ℕ) → ¬ (a ≡ Refused Repeat k 0)) → (a ≡ b) × (new ≡ other)
 read-alike text lent a b new other = lists.reads-alike lent a b new other text
 
 pub checked-alike : (list sheet lent : List ℕ) (a b : Checked) (new other : List ℕ) → CheckPromise true list sheet lent a new → CheckPromise false list sheet lent b other
-    → ((k : ℕ) → ¬ (a ≡ Unread Repeat k)) → (a ≡ b) × (new ≡ other)
+    → ((k : ℕ) → ¬ (a ≡ Unread Repeat k 0)) → (a ≡ b) × (new ≡ other)
 checked-alike = sheets.checks-alike
