@@ -72,7 +72,8 @@ new-later e es n g h d f w x m t =
     pair-same x y p q = rw (p, q)
 
 module _ (plain : Bool) (most : ℕ) where
-  edge-step : (n m c room : ℕ) (p : Spot) (i j : ℕ) → i < j → j < n → stepUpTo most (known n m c) room p (E (i + 1) (j + 1)) ≡ Edge (known n m (c + 1)) i j
+  edge-step : (n m c room : ℕ) (p : Spot) (i j : ℕ) → i < j → j < n → stepUpTo most (known n m c) room p (E (i + 1) (j + 1))
+      ≡ Edge (known n m (c + 1)) i j
   edge-step n m c room p i j a b =
       let u : i + 1 - 1 ≡ i = omega arith in
       let v : j + 1 - 1 ≡ j = omega arith in

@@ -40,7 +40,8 @@ turned : (c : tie.At-match-came Inv-loop μ-loop) →
     let b = c .before .before .before .before .before .before in
     let a = b .before .before .before .args in
     let e = c .before .before .before .before .line-end in
-    Turned (a .plain) mostEntries (a .text .now) (a .room) (b .loop .at) (e .result) (b .loop .line) (b .loop .h) (b .loop .rows) (e .ensures .0) (closed (c .before .before .before)) (c .match .h) (c .match .rows)
+    Turned (a .plain) mostEntries (a .text .now) (a .room) (b .loop .at) (e .result) (b .loop .line) (b .loop .h) (b .loop .rows) (e .ensures .0)
+    (closed (c .before .before .before)) (c .match .h) (c .match .rows)
 turned c =
     let b = c .before .before .before .before .before .before in
     let a = b .before .before .before .args in
@@ -96,7 +97,8 @@ returns-2 c =
     let a = c .before .before .before .before .before .before .before .before .before .args in
     c .refused-at .ensures
     ∙ ap (λ (p : Spot). refusedAt p (b .line)) (c .before .spot-of .ensures ∙ ap spotOf (rest (a .text .now) (b .at)))
-    ∙ sym (read-halts (a .plain) mostEntries (a .text .now) (a .room) (b .at) _ _ (b .h) (b .rows) (c .before .before .before .before .line-end .ensures .0) (c .before .before .before .before .before .loop-test .taken) (c .before .before .before .if2 .taken))
+    ∙ sym (read-halts (a .plain) mostEntries (a .text .now) (a .room) (b .at) _ _ (b .h) (b .rows) (c .before .before .before .before .line-end .ensures .0)
+    (c .before .before .before .before .before .loop-test .taken) (c .before .before .before .if2 .taken))
     ∙ b .inv .6
     ∙ read-short (a .plain) mostEntries longestText (a .text .now) (a .room) (b .inv .1)
 
@@ -122,8 +124,11 @@ returns-3 : tie.Need-returns-3 Inv-loop μ-loop
 returns-3 c =
     let b = c .before .before .before .before .before .before .before .before .before .loop in
     let a = c .before .before .before .before .before .before .before .before .before .before .before .before .args in
-    c .refused-at2 .ensures ∙ sym (turn (a .plain) mostEntries (a .text .now) (a .room) (b .at) _ _ (b .h) (b .rows) (c .before .before .before .before .before .before .before .line-end .ensures .0) (closed (c .before .before .before .before .before .before)) _
-    (stepped (c .before .before .before .before) ∙ c .before .before .spot .given .1)) ∙ b .inv .6 ∙ read-short (a .plain) mostEntries longestText (a .text .now) (a .room) (b .inv .1)
+    c .refused-at2 .ensures
+    ∙ sym (turn (a .plain) mostEntries (a .text .now) (a .room) (b .at) _ _ (b .h) (b .rows) (c .before .before .before .before .before .before .before .line-end .ensures .0)
+    (closed (c .before .before .before .before .before .before)) _
+    (stepped (c .before .before .before .before) ∙ c .before .before .spot .given .1)) ∙ b .inv .6
+    ∙ read-short (a .plain) mostEntries longestText (a .text .now) (a .room) (b .inv .1)
 
 enum-known-why : tie.Need-enum-known-why Inv-loop μ-loop
 enum-known-why c = search needs
@@ -135,7 +140,9 @@ returns-4 : tie.Need-returns-4 Inv-loop μ-loop
 returns-4 c =
     let b = c .before .before .before .before .before .before .before .before .before .loop in
     let a = c .before .before .before .before .before .before .before .before .before .before .before .before .args in
-    c .refused2 .ensures ∙ sym (turn (a .plain) mostEntries (a .text .now) (a .room) (b .at) _ _ (b .h) (b .rows) (c .before .before .before .before .before .before .before .line-end .ensures .0) (closed (c .before .before .before .before .before .before)) _
+    c .refused2 .ensures ∙ sym
+    (turn (a .plain) mostEntries (a .text .now) (a .room) (b .at) _ _ (b .h) (b .rows) (c .before .before .before .before .before .before .before .line-end .ensures .0)
+    (closed (c .before .before .before .before .before .before)) _
     (stepped (c .before .before .before .before) ∙ c .before .before .why .given .1)) ∙ b .inv .6 ∙ read-short (a .plain) mostEntries longestText (a .text .now) (a .room) (b .inv .1)
 
 enum-known-g : tie.Need-enum-known-g Inv-loop μ-loop
@@ -164,7 +171,9 @@ set-bit-requires : tie.Need-set-bit-requires Inv-loop μ-loop
 set-bit-requires c κs = below (c .before .before .before .before)
 
 set-bit-requires-2 : tie.Need-set-bit-requires-2 Inv-loop μ-loop
-set-bit-requires-2 c κs = let w = below (c .before .before .before .before .before .before) in (w .1, w .0)
+set-bit-requires-2 c κs =
+    let w = below (c .before .before .before .before .before .before) in
+    (w .1, w .0)
 
 add-at : tie.Need-add-at Inv-loop μ-loop
 add-at c = omega (arith, c .before .before .before .before .line-end .ensures .0)
@@ -178,8 +187,16 @@ loop-less c = omega (arith, c .before .before .before .before .line-end .ensures
 loop-again : tie.Need-loop-again Inv-loop μ-loop
 loop-again c =
     let t = turned c in
-    let e = c .before .before .before .before .line-end .ensures in
-    (omega arith, omega arith, omega arith, omega (arith, t .counted), t .few, t .size, t .same ∙ c .before .before .before .before .before .before .loop .inv .6)
+    let e = c .before .before .before .before .line-end .ensures in (
+      omega arith,
+      omega arith,
+      omega arith,
+      omega (arith, t .counted),
+      t .few,
+      t .size,
+      t .same
+          ∙ c .before .before .before .before .before .before .loop .inv .6,
+    )
 
 ended-requires : tie.Need-ended-requires Inv-loop μ-loop
 ended-requires c κs = search needs
