@@ -29,7 +29,8 @@ use Rattle.answers.specs.declared.Printed.{Printed}
 use Rattle.answers.proofs.Laws.{printed-read, printed-refused, rows-accepted, rows-spent}
 
 -- the text is refused
-pub refusal-printed : (plain : Bool) (text lent : List ℕ) (f : Fault) (k c : ℕ) (rows : List ℕ) → length lent ≡ 64 → ReadPromise plain text lent (Refused f k c) rows
+pub refusal-printed : (plain : Bool) (text lent : List ℕ) (f : Fault) (k c : ℕ) (rows : List ℕ) → length lent ≡ 64
+    → ReadPromise plain text lent (Refused f k c) rows
     → printed plain text ≡ toldText (refusalOf f) k c
 refusal-printed plain text lent f k c rows z x =
     printed-refused plain text (readOf plain text 64) refl f k c (sym (subst (λ (room : ℕ). Refused f k c ≡ readOf plain text room .answer) z (x .answer)))
@@ -54,7 +55,8 @@ module _ (plain : Bool) (text lent : List ℕ) (n : ℕ) (rows : List ℕ) (x : 
 -- ---- the two readings
 
 -- the same is printed, unless the plain reading refuses a repeat
-pub printed-alike : (text : List ℕ) → (printed true text ≡ printed false text) ⊎ ((k : ℕ) × (readOf true text 64 .answer ≡ refusedUpTo mostEntries Repeat k .answer))
+pub printed-alike : (text : List ℕ)
+    → (printed true text ≡ printed false text) ⊎ ((k : ℕ) × (readOf true text 64 .answer ≡ refusedUpTo mostEntries Repeat k .answer))
 unfolding printed
 printed-alike text =
     ⊎-elim (λ e. inl (ap (λ (f : Found). readText (f .answer) (f .rows)) e)) (λ e. inr (e .0, ap (λ (f : Found). f .answer) (e .1)))
@@ -65,7 +67,8 @@ printed-alike text =
 writes-unique : (x old : List ℕ) (a b : Printed) (new other : List ℕ) → Writes x old a new → Writes x old b other → (a ≡ b) × (new ≡ other)
 writes-unique x old a b new other p q = (p .answer ∙ sym (q .answer), p .lent ∙ sym (q .lent))
 
-pub answer-unique : (plain : Bool) (text old : List ℕ) (a b : Printed) (new other : List ℕ) → AnswerPromise plain text old a new → AnswerPromise plain text old b other
+pub answer-unique : (plain : Bool) (text old : List ℕ) (a b : Printed) (new other : List ℕ) → AnswerPromise plain text old a new
+    → AnswerPromise plain text old b other
     → (a ≡ b) × (new ≡ other)
 answer-unique plain text = writes-unique (printed plain text)
 

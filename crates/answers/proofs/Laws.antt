@@ -108,7 +108,8 @@ line-told r k = go (entry r .beside)
     go aSpot = omega arith
     go anIndex = omega arith
 
-pub line-small : (plain : Bool) (s : List ℕ) (room : ℕ) (f : Fault) (k c : ℕ) (r : Refusal) → readOf plain s room .answer ≡ Refused f k c → told r k .line < 10000000
+pub line-small : (plain : Bool) (s : List ℕ) (room : ℕ) (f : Fault) (k c : ℕ) (r : Refusal) → readOf plain s room .answer ≡ Refused f k c
+    → told r k .line < 10000000
 line-small plain s room f k c r e = go (decLt longestText (length s))
   where
     names : Named false (linesOf s) f k

@@ -35,7 +35,8 @@ clique-unique rows r q x y = numbers-unique boundNumbers (x .numbers) (y .number
 pub mycielskian-unique : (rows : List ℕ) (r q : BoundNumbers) → BoundCall mycielskian rows r → BoundCall mycielskian rows q → r ≡ q
 mycielskian-unique rows r q x y = numbers-unique boundNumbers (x .numbers) (y .numbers) (face.mycielskian-unique rows (x .answer) (y .answer) (x .promised) (y .promised))
 
-pub fault-line-unique : (plain : Bool) (list sheet : List ℕ) (room : ℕ) (r q : PartNumbers) → PartCall plain list sheet room r → PartCall plain list sheet room q → r ≡ q
+pub fault-line-unique : (plain : Bool) (list sheet : List ℕ) (room : ℕ) (r q : PartNumbers) → PartCall plain list sheet room r
+    → PartCall plain list sheet room q → r ≡ q
 fault-line-unique plain list sheet room r q x y =
     numbers-unique partNumbers (x .numbers) (y .numbers) (face.fault-part-unique plain list sheet room (x .answer) (y .answer) (x .promised) (y .promised))
 
@@ -52,7 +53,8 @@ pub plain-unique : (rows before : List ℕ) (budget : ℕ) (r q : WalkNumbers) (
 plain-unique rows before budget r q after other x y =
     call-unique walkNumbers (x .numbers) (y .numbers) (face.plain-unique rows before budget (x .answer) (y .answer) after other (x .promised) (y .promised))
 
-pub read-list-unique : (plain : Bool) (text old : List ℕ) (r q : ReadNumbers) (new other : List ℕ) → ReadCall plain text old r new → ReadCall plain text old q other
+pub read-list-unique : (plain : Bool) (text old : List ℕ) (r q : ReadNumbers) (new other : List ℕ) → ReadCall plain text old r new
+    → ReadCall plain text old q other
     → (r ≡ q) × (new ≡ other)
 read-list-unique plain text old r q new other x y =
     call-unique readNumbers (x .numbers) (y .numbers) (face.read-list-unique plain text old (x .answer) (y .answer) new other (x .promised) (y .promised))
@@ -67,12 +69,14 @@ pub write-sheet-unique : (colours old : List ℕ) (r q : WriteNumbers) (new othe
 write-sheet-unique colours old r q new other x y =
     call-unique sheetNumbers (x .numbers) (y .numbers) (face.write-sheet-unique colours old (x .answer) (y .answer) new other (x .promised) (y .promised))
 
-pub check-sheet-unique : (plain : Bool) (list sheet old : List ℕ) (r q : CheckNumbers) (new other : List ℕ) → CheckCall plain list sheet old r new → CheckCall plain list sheet old q other
+pub check-sheet-unique : (plain : Bool) (list sheet old : List ℕ) (r q : CheckNumbers) (new other : List ℕ) → CheckCall plain list sheet old r new
+    → CheckCall plain list sheet old q other
     → (r ≡ q) × (new ≡ other)
 check-sheet-unique plain list sheet old r q new other x y =
     call-unique checkNumbers (x .numbers) (y .numbers) (face.check-sheet-unique plain list sheet old (x .answer) (y .answer) new other (x .promised) (y .promised))
 
-pub answer-unique : (plain : Bool) (text old : List ℕ) (r q : WriteNumbers) (new other : List ℕ) → AnswerCall plain text old r new → AnswerCall plain text old q other
+pub answer-unique : (plain : Bool) (text old : List ℕ) (r q : WriteNumbers) (new other : List ℕ) → AnswerCall plain text old r new
+    → AnswerCall plain text old q other
     → (r ≡ q) × (new ≡ other)
 answer-unique plain text old r q new other x y =
     call-unique printedNumbers (x .numbers) (y .numbers) (face.answer-unique plain text old (x .answer) (y .answer) new other (x .promised) (y .promised))

@@ -89,7 +89,8 @@ module _ (lent : List ℕ) (a b : Reading) (new other : List ℕ) where
       )
 
   -- a text is read alike by both, unless the plain reading refuses a repeat
-  pub reads-alike : (s : List ℕ) → ReadPromise true s lent a new → ReadPromise false s lent b other → ((k : ℕ) → ¬ (a ≡ Refused Repeat k 0)) → (a ≡ b) × (new ≡ other)
+  pub reads-alike : (s : List ℕ) → ReadPromise true s lent a new → ReadPromise false s lent b other → ((k : ℕ) → ¬ (a ≡ Refused Repeat k 0))
+      → (a ≡ b) × (new ≡ other)
   reads-alike s x y h =
       ⊎-elim (λ e. (x .answer ∙ ap (λ (f : Found). f .answer) e ∙ sym (y .answer), x .lent ∙ ap (λ (f : Found). writtenOf f lent) e ∙ sym (y .lent)))
       (λ e. absurd (h (e .0) (x .answer ∙ ap (λ (f : Found). f .answer) (e .1)))) (read-up-to-alike mostEntries longestText s (length lent))

@@ -83,7 +83,8 @@ module _ (plain : Bool) (most : ℕ) where
       → readFromUpTo plain most (linesOf (drop a s)) room k h g ≡ refusedAtUpTo most (spotOf (drop a s)) k
   read-halts s room a e k h g q i l = ap (λ (t : Text). readFromUpTo plain most t room k h g) (line-unended s a e q i l)
 
-  pub read-ends : (s : List ℕ) (room a k : ℕ) (h : Head) (g : List ℕ) → length s ≤ a → readFromUpTo plain most (linesOf (drop a s)) room k h g ≡ finishUpTo most h g k
+  pub read-ends : (s : List ℕ) (room a k : ℕ) (h : Head) (g : List ℕ) → length s ≤ a
+      → readFromUpTo plain most (linesOf (drop a s)) room k h g ≡ finishUpTo most h g k
   read-ends s room a k h g l = rw (drop-of-length-le s l)
 
   -- a line that is ended at e, and the step that it makes
@@ -115,7 +116,8 @@ module _ (plain : Bool) (most : ℕ) where
       ends-below x i j p = let d = keeps (Edge x i j) p in (omega (arith, d .0, d .2), omega (arith, d .0, d .3))
 
       -- an edge that the plain reading has met
-      pub repeated : (x : Head) (i j : ℕ) → does ≡ Edge x i j → (plain && matrix g i j) ≡ true → readFromUpTo plain most (linesOf (drop a s)) room k h g ≡ refusedUpTo most Repeat k
+      pub repeated : (x : Head) (i j : ℕ) → does ≡ Edge x i j → (plain && matrix g i j) ≡ true
+          → readFromUpTo plain most (linesOf (drop a s)) room k h g ≡ refusedUpTo most Repeat k
       repeated x i j p r = turn (Edge x i j) p ∙ rw r
 
       pub turned-go : (x : Head) → does ≡ Go x → (h′ : Head) (g′ : List ℕ) → g′ ≡ g → h′ ≡ x → Turned h′ g′
@@ -136,7 +138,8 @@ Bounded k (Read n) = n ≤ k
 Bounded k (Refused f l c) = Unit {0}
 
 module _ (plain : Bool) (most : ℕ) where
-  from-bounded : (t : Text) (room l : ℕ) (h : Head) (g : List ℕ) (k : ℕ) → ((n : ℕ) → n ≤ most → n ≤ room → n ≤ k) → h .n ≤ k → Bounded k (readFromUpTo plain most t room l h g .answer)
+  from-bounded : (t : Text) (room l : ℕ) (h : Head) (g : List ℕ) (k : ℕ) → ((n : ℕ) → n ≤ most → n ≤ room → n ≤ k) → h .n ≤ k
+      → Bounded k (readFromUpTo plain most t room l h g .answer)
   from-bounded done room l h g k f a = cond-cases (λ (x : Found). Bounded k (x .answer)) (h .seen) _ _ (λ _. cond-cases (λ (x : Found). Bounded k (x .answer)) (eqb (h .count) (h .m)) _ _ (λ _. a) (λ _. tt)) (λ _. tt)
   from-bounded (unended x) room l h g k f a = tt
   from-bounded (ended x t) room l h g k f a =
@@ -151,7 +154,8 @@ module _ (plain : Bool) (most : ℕ) where
       go (Edge y i j) d r = cond-cases (λ (x : Found). Bounded k (x .answer)) (plain && matrix g i j) _ _ (λ _. tt) (λ _. r y (join g i j) (d .0))
 
 module _ (plain : Bool) (most longest : ℕ) where
-  pub read-short : (s : List ℕ) (room : ℕ) → length s ≤ longest → readFromUpTo plain most (linesOf s) room 1 start (noRowsUpTo most) ≡ readUpTo plain most longest s room
+  pub read-short : (s : List ℕ) (room : ℕ) → length s ≤ longest
+      → readFromUpTo plain most (linesOf s) room 1 start (noRowsUpTo most) ≡ readUpTo plain most longest s room
   read-short s room l = sym (ap (λ (b : Bool). cond b (readFromUpTo plain most (linesOf s) room 1 start (noRowsUpTo most)) (refusedUpTo most Long 0)) (le-leb _ _ l))
 
   pub read-long : (s : List ℕ) (room : ℕ) → longest < length s → readUpTo plain most longest s room ≡ refusedUpTo most Long 0

@@ -168,7 +168,8 @@ module _ (plain : Bool) (most : ℕ) where
   from-names (ended l t) room k h g =
       go (stepUpTo most h room (spotOf l) (shapeOf l)) (step-in most h room (spotOf l) (shapeOf l) (spot-shape l)) (from-names t room (k + 1))
     where
-      go : (st : Step) → InLine (h .seen) (shapeOf l) st → ((x : Head) (y : List ℕ) → From (x .seen) t (k + 1) (readFromUpTo plain most t room (k + 1) x y .answer))
+      go : (st : Step) → InLine (h .seen) (shapeOf l) st
+          → ((x : Head) (y : List ℕ) → From (x .seen) t (k + 1) (readFromUpTo plain most t room (k + 1) x y .answer))
           → From (h .seen) (ended l t) k (afterUpTo plain most st g k (readFromUpTo plain most t room (k + 1)) .answer)
       go (StopAt p) d r = (0, omega arith, named-shape (h .seen) (ended l t) (p .fault) 1 d (within-first l t))
       go (Stop f) d r = (0, omega arith, d l t refl)

@@ -61,7 +61,8 @@ edge-shape : (i j : ℕ) → i + 1 < 10000000 → j + 1 < 10000000 → shapeOf (
 edge-shape i j hi hj = ap asE (pair-back (i + 1) (j + 1) hi hj)
 
 -- where one edge more is joined, the others are new still
-new-later : (e : ℕ × ℕ) (es : List (ℕ × ℕ)) (n : ℕ) (g : List ℕ) → Rising n (e ∷ es) → NoDup (e ∷ es) → n ≤ length g → New g (e ∷ es) → New (join g (e .0) (e .1)) es
+new-later : (e : ℕ × ℕ) (es : List (ℕ × ℕ)) (n : ℕ) (g : List ℕ) → Rising n (e ∷ es) → NoDup (e ∷ es) → n ≤ length g → New g (e ∷ es)
+    → New (join g (e .0) (e .1)) es
 new-later e es n g h d f w x m t =
     let l = h e (inl refl) in
     ⊎-elim (w x (inr m))

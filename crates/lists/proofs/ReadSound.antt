@@ -117,7 +117,8 @@ module _ (most : ℕ) where
   from-clean plain (ended x t) room l h g k =
       go (stepUpTo most h room (spotOf x) (shapeOf x)) (known-step h g room (spotOf x) (shapeOf x) k) (from-clean plain t room (l + 1))
     where
-      go : (st : Step) → After g st → ((h : Head) (g : List ℕ) → Known h g → Cleaned (readFromUpTo plain most t room (l + 1) h g)) → Cleaned (afterUpTo plain most st g l (readFromUpTo plain most t room (l + 1)))
+      go : (st : Step) → After g st → ((h : Head) (g : List ℕ) → Known h g → Cleaned (readFromUpTo plain most t room (l + 1) h g))
+          → Cleaned (afterUpTo plain most st g l (readFromUpTo plain most t room (l + 1)))
       go (StopAt p) d r = tt
       go (Stop f) d r = tt
       go (Go y) d r = r y g d
@@ -149,7 +150,8 @@ module _ (plain : Bool) (most longest : ℕ) where
   read-clean : (s : List ℕ) (room : ℕ) → Cleaned most (readUpTo plain most longest s room)
   read-clean s room = cond-cases (Cleaned most) (leb (length s) longest) _ _ (λ _. from-clean most plain (linesOf s) room 1 start (noRowsUpTo most) (start-known most)) (λ _. tt)
 
-  pub read-up-to-sound : (s : List ℕ) (room n : ℕ) → readUpTo plain most longest s room .answer ≡ Read n → SoundUpTo most (take n (readUpTo plain most longest s room .rows))
+  pub read-up-to-sound : (s : List ℕ) (room n : ℕ) → readUpTo plain most longest s room .answer ≡ Read n
+      → SoundUpTo most (take n (readUpTo plain most longest s room .rows))
   read-up-to-sound s room n e = clean-sound most n (readUpTo plain most longest s room .rows) (subst (λ (a : Reading). Cleans most a (readUpTo plain most longest s room .rows)) e (read-clean s room))
 
 pub read-sound : (plain : Bool) (s : List ℕ) (room n : ℕ) → readOf plain s room .answer ≡ Read n → Sound (take n (readOf plain s room .rows))

@@ -12,7 +12,8 @@ use Rattle.lists.specs.Promise.{ReadPromiseUpTo, WritePromiseUpTo, ReadP
 use Rattle.lists.specs.declared.Reading.{Reading}
 use Rattle.lists.specs.declared.Written.{Written}
 
-pub read-up-to-unique : (plain : Bool) (most longest : ℕ) (s old : List ℕ) (a b : Reading) (new other : List ℕ) → ReadPromiseUpTo plain most longest s old a new → ReadPromiseUpTo plain most longest s old b other → (a ≡ b) × (new ≡ other)
+pub read-up-to-unique : (plain : Bool) (most longest : ℕ) (s old : List ℕ) (a b : Reading) (new other : List ℕ)
+    → ReadPromiseUpTo plain most longest s old a new → ReadPromiseUpTo plain most longest s old b other → (a ≡ b) × (new ≡ other)
 read-up-to-unique plain most longest s old a b new other x y = (x .answer ∙ sym (y .answer), x .lent ∙ sym (y .lent))
 
 pub write-up-to-unique : (most : ℕ) (rows old : List ℕ) (a b : Written) (new other : List ℕ) → WritePromiseUpTo most rows old a new → WritePromiseUpTo most rows old b other → (a ≡ b) × (new ≡ other)

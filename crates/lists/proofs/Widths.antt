@@ -101,7 +101,8 @@ widest-le (b ∷ s) = go (eqb b 10) (widest-le s)
 
 -- ---- the law
 
-pub read-column : (plain : Bool) (most longest : ℕ) (s : List ℕ) (room : ℕ) (f : Fault) (k c : ℕ) → readUpTo plain most longest s room .answer ≡ Refused f k c
+pub read-column : (plain : Bool) (most longest : ℕ) (s : List ℕ) (room : ℕ) (f : Fault) (k c : ℕ)
+    → readUpTo plain most longest s room .answer ≡ Refused f k c
     → (c ≤ length s + 1) × (T (ofShape f) → 1 ≤ c)
 read-column plain most longest s room f k c e =
     subst (Placed (length s + 1)) e (cond-cases (λ (x : Found). Placed (length s + 1) (x .answer)) (leb (length s) longest) _ _

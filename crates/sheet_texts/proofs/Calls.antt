@@ -116,13 +116,15 @@ module _ (plain : Bool) (most longest : ℕ) (list : List ℕ) (n : ℕ) (e : re
 module _ (plain : Bool) (most longest : ℕ) (c old : List ℕ) (sevens : length c < 10000000) (short : length (sheetText c) ≤ longest) (k : ℕ) (out list lent : List ℕ) (a : Checked)
     (new : List ℕ) (w : WritePromiseUpTo most c old (Length k) out) (x : CheckPromiseUpTo plain most longest list (take k out) lent a new)
     (e : readUpTo plain most longest list most .answer ≡ Read (length c)) (room : length c ≤ length lent) where
-  outcome : (o : Outcome) → sheetUpTo most longest (length c) (matrix (readUpTo plain most longest list most .rows)) (sheetText c) ≡ o → (a ≡ o .answer) × (new ≡ writtenOf o lent)
+  outcome : (o : Outcome) → sheetUpTo most longest (length c) (matrix (readUpTo plain most longest list most .rows)) (sheetText c) ≡ o
+      → (a ≡ o .answer) × (new ≡ writtenOf o lent)
   outcome o q =
       let p = ap (λ (s : List ℕ). checkUpTo plain most longest list s (length lent)) (wrote-is most c old k out w .text) ∙ checked-up-to-is plain most longest list (length c) e (sheetText c) (length lent) room ∙ q in
       (x .answer ∙ ap (λ (y : Outcome). y .answer) p, x .lent ∙ ap (λ (y : Outcome). writtenOf y lent) p)
 
   -- a clash-free division is accepted, with the same k and the same bytes
-  pub calls-up-to-free : T (clashFree (length c) (matrix (readUpTo plain most longest list most .rows)) c) → (a ≡ Accepted (groups 0 c)) × (new ≡ c ++ drop (length c) lent)
+  pub calls-up-to-free : T (clashFree (length c) (matrix (readUpTo plain most longest list most .rows)) c)
+      → (a ≡ Accepted (groups 0 c)) × (new ≡ c ++ drop (length c) lent)
   calls-up-to-free t =
       let r = wrote-is most c old k out w in
       let f = read-up-to-free most longest c (r .canon) (r .few) sevens short (matrix (readUpTo plain most longest list most .rows)) t in
@@ -144,7 +146,8 @@ pub read-free : (c : List ℕ) → Canon 0 c → length c ≤ mostEntries → (c
     → (w : List ℕ) × (take (length c) w ≡ c) × (sheetOf (length c) clash (sheetText c) ≡ accepted (length c) (groups 0 c) w)
 read-free c canon few = read-up-to-free mostEntries longestText c canon few (omega arith) (sheet-fits c canon few)
 
-pub list-valid : (plain : Bool) (list : List ℕ) (n : ℕ) → readOf plain list mostEntries .answer ≡ Read n → Valid n (matrix (readOf plain list mostEntries .rows))
+pub list-valid : (plain : Bool) (list : List ℕ) (n : ℕ) → readOf plain list mostEntries .answer ≡ Read n
+    → Valid n (matrix (readOf plain list mostEntries .rows))
 list-valid plain = list-up-to-valid plain mostEntries longestText
 
 pub checked-is : (plain : Bool) (list : List ℕ) (n : ℕ) → readOf plain list mostEntries .answer ≡ Read n → (s : List ℕ) (room : ℕ) → n ≤ room

@@ -68,7 +68,8 @@ module _ (most : ℕ) where
       seen true q n = refl
       seen false q n = small (leb m most) refl n
 
-  same-from : (plain : Bool) (t : Text) (room k : ℕ) (h : Head) (g : List ℕ) (n : ℕ) → readFromUpTo plain most t room k h g .answer ≡ Read n → readFromUpTo plain most t most k h g ≡ readFromUpTo plain most t room k h g
+  same-from : (plain : Bool) (t : Text) (room k : ℕ) (h : Head) (g : List ℕ) (n : ℕ) → readFromUpTo plain most t room k h g .answer ≡ Read n
+      → readFromUpTo plain most t most k h g ≡ readFromUpTo plain most t room k h g
   same-from plain done room k h g n e = refl
   same-from plain (unended l) room k h g n e = refl
   same-from plain (ended l t) room k h g n e = go (stepUpTo most h room (spotOf l) (shapeOf l)) refl e (same-from plain t room (k + 1))
@@ -81,7 +82,8 @@ module _ (most : ℕ) where
           (readFromUpTo plain most t most (k + 1)) ≡ afterUpTo plain most st g k (readFromUpTo plain most t most (k + 1))
       step st q = ap (λ (x : Step). afterUpTo plain most x g k (readFromUpTo plain most t most (k + 1))) q
 
-      go : (st : Step) → stepUpTo most h room (spotOf l) (shapeOf l) ≡ st → afterUpTo plain most st g k (readFromUpTo plain most t room (k + 1)) .answer ≡ Read n
+      go : (st : Step) → stepUpTo most h room (spotOf l) (shapeOf l) ≡ st
+          → afterUpTo plain most st g k (readFromUpTo plain most t room (k + 1)) .answer ≡ Read n
           → ((h : Head) (g : List ℕ) (n : ℕ) → readFromUpTo plain most t room (k + 1) h g .answer ≡ Read n → readFromUpTo plain most t most (k + 1) h g ≡ readFromUpTo plain most t room (k + 1) h g)
           → afterUpTo plain most (stepUpTo most h most (spotOf l) (shapeOf l)) g k (readFromUpTo plain most t most (k + 1)) ≡ afterUpTo plain most st g k
           (readFromUpTo plain most t room (k + 1))
@@ -97,7 +99,8 @@ module _ (most : ℕ) where
           pick false e = r y (join g i j) n e
 
 module _ (plain : Bool) (most longest : ℕ) where
-  pub same-read : (s : List ℕ) (room n : ℕ) → readUpTo plain most longest s room .answer ≡ Read n → readUpTo plain most longest s most ≡ readUpTo plain most longest s room
+  pub same-read : (s : List ℕ) (room n : ℕ) → readUpTo plain most longest s room .answer ≡ Read n
+      → readUpTo plain most longest s most ≡ readUpTo plain most longest s room
   same-read s room n e = go (leb (length s) longest) e
     where
       go : (b : Bool) → cond b (readFromUpTo plain most (linesOf s) room 1 start (noRowsUpTo most)) (refusedUpTo most Fault.Long 0) .answer ≡ Read n
@@ -115,7 +118,8 @@ module _ (most : ℕ) where
   from-size plain (unended l) room k h g z = length-replicate most 0
   from-size plain (ended l t) room k h g z = go (stepUpTo most h room (spotOf l) (shapeOf l)) (from-size plain t room (k + 1))
     where
-      go : (st : Step) → ((h : Head) (g : List ℕ) → length g ≡ most → length (readFromUpTo plain most t room (k + 1) h g .rows) ≡ most) → length (afterUpTo plain most st g k (readFromUpTo plain most t room (k + 1)) .rows) ≡ most
+      go : (st : Step) → ((h : Head) (g : List ℕ) → length g ≡ most → length (readFromUpTo plain most t room (k + 1) h g .rows) ≡ most)
+          → length (afterUpTo plain most st g k (readFromUpTo plain most t room (k + 1)) .rows) ≡ most
       go (StopAt p) r = length-replicate most 0
       go (Stop f) r = length-replicate most 0
       go (Go y) r = r y g z

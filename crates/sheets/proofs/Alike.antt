@@ -25,7 +25,8 @@ module _ (most longest : ℕ) (list s : List ℕ) (room : ℕ) where
   check-up-to-alike = ⊎-elim (λ e. inl (ap by e)) (λ e. inr (e .0, ap by (e .1))) (read-up-to-alike most longest list most)
 
 -- the calls
-pub checks-alike : (list s lent : List ℕ) (a b : Checked) (new other : List ℕ) → CheckPromise true list s lent a new → CheckPromise false list s lent b other
+pub checks-alike : (list s lent : List ℕ) (a b : Checked) (new other : List ℕ) → CheckPromise true list s lent a new
+    → CheckPromise false list s lent b other
     → ((k : ℕ) → ¬ (a ≡ Unread Repeat k 0)) → (a ≡ b) × (new ≡ other)
 checks-alike list s lent a b new other x y h =
     ⊎-elim (λ e. (x .answer ∙ ap (λ (o : Outcome). o .answer) e ∙ sym (y .answer), x .lent ∙ ap (λ (o : Outcome). writtenOf o lent) e ∙ sym (y .lent)))

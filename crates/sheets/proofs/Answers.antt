@@ -69,7 +69,8 @@ module _ (plain : Bool) (most longest : ℕ) where
           (λ _. record { few = omega arith; fits = omega arith; copied = λ old. refl })
 
   -- the promise of `check_sheet`, from what was found and copied
-  pub check-handed : (list s old new : List ℕ) (o : Outcome) → o ≡ checkUpTo plain most longest list s (length old) → new ≡ take (o .entries) (o .colours) ++ drop (o .entries) old
+  pub check-handed : (list s old new : List ℕ) (o : Outcome) → o ≡ checkUpTo plain most longest list s (length old)
+      → new ≡ take (o .entries) (o .colours) ++ drop (o .entries) old
       → CheckPromiseUpTo plain most longest list s old (o .answer) new
   check-handed list s old new o e w = record {
     answer = ap (λ (x : Outcome). x .answer) e;

@@ -109,7 +109,8 @@ module _ (most : ℕ) where
   from-roomy plain (ended l t) k h g =
       go (stepList most h most (spotOf l) (shapeOf l)) (step-enough h (spotOf l) (shapeOf l) (spot-shape l)) (from-roomy plain t (k + 1))
     where
-      go : (st : ListStep) → Enough st → ((h : Head) (g : List ℕ) → Roomy (readFromUpTo plain most t most (k + 1) h g .answer)) → Roomy (afterList plain most st g k (readFromUpTo plain most t most (k + 1)) .answer)
+      go : (st : ListStep) → Enough st → ((h : Head) (g : List ℕ) → Roomy (readFromUpTo plain most t most (k + 1) h g .answer))
+          → Roomy (afterList plain most st g k (readFromUpTo plain most t most (k + 1)) .answer)
       go (StopListAt p) e r = roomy-shape (p .fault) k (p .column) e
       go (StopList f) e r = e k
       go (Go h) e r = r h g

@@ -91,20 +91,23 @@ module _ (plain : Bool) (most longest : ℕ) (list s : RefT (List ℕ)) (room : 
   named = text-is (m .text) (heldBy (m .text) (now list) (now s)) (m .line)
 
   -- what `fault_line` returns lies at this place
-  pub place-up-to-shown : (p : Part) → PlacePromiseUpTo plain most longest (now list) (now s) room p → PreviewPromiseUpTo plain most longest list s room r → At (holder list s p) p r
+  pub place-up-to-shown : (p : Part) → PlacePromiseUpTo plain most longest (now list) (now s) room p
+      → PreviewPromiseUpTo plain most longest list s room r → At (holder list s p) p r
   place-up-to-shown p e x =
       subst (λ (q : Part). At (holder list s q) q r) (sym e)
       (subst (λ (t : ℕ). At (heldBy t list s) whole r) (sym named) (both (eqb (m .text) theList) (m .line) x))
 
   -- and what lies there is what it returns
-  pub shown-up-to-place : (p : Part) → PlacePromiseUpTo plain most longest (now list) (now s) room p → At (holder list s p) p r → PreviewPromiseUpTo plain most longest list s room r
+  pub shown-up-to-place : (p : Part) → PlacePromiseUpTo plain most longest (now list) (now s) room p → At (holder list s p) p r
+      → PreviewPromiseUpTo plain most longest list s room r
   shown-up-to-place p e x =
       back (eqb (m .text) theList) (m .line)
       (subst (λ (t : ℕ). At (heldBy t list s) whole r) named (subst (λ (q : Part). At (holder list s q) q r) e x))
 
 -- ---- one answer, with any limits and with today's
 
-pub place-up-to-unique : (plain : Bool) (most longest : ℕ) (list s : List ℕ) (room : ℕ) (p q : Part) → PlacePromiseUpTo plain most longest list s room p → PlacePromiseUpTo plain most longest list s room q → p ≡ q
+pub place-up-to-unique : (plain : Bool) (most longest : ℕ) (list s : List ℕ) (room : ℕ) (p q : Part)
+    → PlacePromiseUpTo plain most longest list s room p → PlacePromiseUpTo plain most longest list s room q → p ≡ q
 place-up-to-unique plain most longest list s room p q x y = x ∙ sym y
 
 pub place-unique : (plain : Bool) (list s : List ℕ) (room : ℕ) (p q : Part) → PlacePromise plain list s room p → PlacePromise plain list s room q → p ≡ q

@@ -21,7 +21,8 @@ pub written-alike : (rows old out lent : List ℕ) (k : ℕ) (a b : Reading) (ne
     → ReadPromise true (take k out) lent a new → ReadPromise false (take k out) lent b other → (a ≡ b) × (new ≡ other)
 written-alike rows old out lent k a b new other = lists.calls-alike lent a b new other true false rows old out k
 
-pub accepted-alike : (text lent : List ℕ) (n : ℕ) (b : Reading) (new other : List ℕ) → ReadPromise true text lent (Read n) new → ReadPromise false text lent b other
+pub accepted-alike : (text lent : List ℕ) (n : ℕ) (b : Reading) (new other : List ℕ) → ReadPromise true text lent (Read n) new
+    → ReadPromise false text lent b other
     → (b ≡ Read n) × (other ≡ new)
 accepted-alike = lists.accepted-alike
 
@@ -29,6 +30,7 @@ pub read-alike : (text lent : List ℕ) (a b : Reading) (new other : List ℕ) �
     → ((k : ℕ) → ¬ (a ≡ Refused Repeat k 0)) → (a ≡ b) × (new ≡ other)
 read-alike text lent a b new other = lists.reads-alike lent a b new other text
 
-pub checked-alike : (list sheet lent : List ℕ) (a b : Checked) (new other : List ℕ) → CheckPromise true list sheet lent a new → CheckPromise false list sheet lent b other
+pub checked-alike : (list sheet lent : List ℕ) (a b : Checked) (new other : List ℕ) → CheckPromise true list sheet lent a new
+    → CheckPromise false list sheet lent b other
     → ((k : ℕ) → ¬ (a ≡ Unread Repeat k 0)) → (a ≡ b) × (new ≡ other)
 checked-alike = sheets.checks-alike

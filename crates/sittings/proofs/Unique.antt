@@ -51,7 +51,8 @@ pub plain-unique : (rows before : List ℕ) (budget : ℕ) (a b : Answer) (after
     → Promised plainWalk rows before budget b other → (a ≡ b) × (after ≡ other)
 plain-unique = promised-unique 64 plainWalk
 
-pub read-list-unique : (plain : Bool) (text old : List ℕ) (a b : Reading) (new other : List ℕ) → ReadPromise plain text old a new → ReadPromise plain text old b other
+pub read-list-unique : (plain : Bool) (text old : List ℕ) (a b : Reading) (new other : List ℕ) → ReadPromise plain text old a new
+    → ReadPromise plain text old b other
     → (a ≡ b) × (new ≡ other)
 read-list-unique = lists.read-unique
 
@@ -73,18 +74,22 @@ pub fault-line-unique : (plain : Bool) (list sheet : RefT (List ℕ)) (room : �
 fault-line-unique = sheets.preview-unique
 
 -- the place in numbers; and what `fault_line` returns is just what lies there
-pub fault-part-unique : (plain : Bool) (list sheet : List ℕ) (room : ℕ) (p q : Part) → PlacePromise plain list sheet room p → PlacePromise plain list sheet room q → p ≡ q
+pub fault-part-unique : (plain : Bool) (list sheet : List ℕ) (room : ℕ) (p q : Part) → PlacePromise plain list sheet room p
+    → PlacePromise plain list sheet room q → p ≡ q
 fault-part-unique = places.place-unique
 
-pub fault-part-shown : (plain : Bool) (list sheet : RefT (List ℕ)) (room : ℕ) (r : RefT (List ℕ)) (p : Part) → PlacePromise plain (now list) (now sheet) room p
+pub fault-part-shown : (plain : Bool) (list sheet : RefT (List ℕ)) (room : ℕ) (r : RefT (List ℕ)) (p : Part)
+    → PlacePromise plain (now list) (now sheet) room p
     → PreviewPromise plain list sheet room r → places.At (places.holder list sheet p) p r
 fault-part-shown plain list sheet room r p = places.place-shown plain list sheet room r p
 
-pub shown-fault-part : (plain : Bool) (list sheet : RefT (List ℕ)) (room : ℕ) (r : RefT (List ℕ)) (p : Part) → PlacePromise plain (now list) (now sheet) room p
+pub shown-fault-part : (plain : Bool) (list sheet : RefT (List ℕ)) (room : ℕ) (r : RefT (List ℕ)) (p : Part)
+    → PlacePromise plain (now list) (now sheet) room p
     → places.At (places.holder list sheet p) p r → PreviewPromise plain list sheet room r
 shown-fault-part plain list sheet room r p = places.shown-place plain list sheet room r p
 
-pub answer-unique : (plain : Bool) (text old : List ℕ) (a b : Printed) (new other : List ℕ) → AnswerPromise plain text old a new → AnswerPromise plain text old b other
+pub answer-unique : (plain : Bool) (text old : List ℕ) (a b : Printed) (new other : List ℕ) → AnswerPromise plain text old a new
+    → AnswerPromise plain text old b other
     → (a ≡ b) × (new ≡ other)
 answer-unique = answers.answer-unique
 

@@ -95,7 +95,8 @@ module _ (plain : Bool) (most longest : ℕ) (list s : List ℕ) (room : ℕ) wh
   abbrev rows-read : List ℕ
   rows-read = readUpTo plain most longest list most .rows
 
-  answered : (r : Reading) → readUpTo plain most longest list most .answer ≡ r → checkUpTo plain most longest list s room ≡ againstUpTo most longest r rows-read s room
+  answered : (r : Reading) → readUpTo plain most longest list most .answer ≡ r
+      → checkUpTo plain most longest list s room ≡ againstUpTo most longest r rows-read s room
   answered r e = ap (λ (x : Reading). againstUpTo most longest x rows-read s room) e
 
   opened : (n : ℕ) → readUpTo plain most longest list most .answer ≡ Read n → n ≤ room → Opened n (take n rows-read)
@@ -144,7 +145,8 @@ module _ (plain : Bool) (most longest : ℕ) (list s old new : List ℕ) where
     lent-is : (o : Outcome) → checkUpTo plain most longest list s (length old) ≡ o → new ≡ writtenOf o old
     lent-is o e = x .lent ∙ ap (λ (y : Outcome). writtenOf y old) e
 
-    pub check-taken : (n : ℕ) (rows : List ℕ) → ListOf plain most longest list n rows → n < 10000000 → n ≤ length old → (k : ℕ) (c : List ℕ) → SheetOf longest n (matrix rows) s k c
+    pub check-taken : (n : ℕ) (rows : List ℕ) → ListOf plain most longest list n rows → n < 10000000 → n ≤ length old → (k : ℕ) (c : List ℕ)
+        → SheetOf longest n (matrix rows) s k c
         → (a ≡ Accepted k) × (new ≡ c ++ drop n old)
     check-taken n rows l sevens h k c q =
         let w = opened-so plain most longest list s (length old) n rows l h in
@@ -168,7 +170,8 @@ module _ (plain : Bool) (most longest : ℕ) (list s old new : List ℕ) where
     pub check-short-so : (n : ℕ) (rows : List ℕ) → ListOf plain most longest list n rows → length old < n → a ≡ Short
     check-short-so n rows l h = answer-is _ (crowded-so plain most longest list s (length old) n rows l h .same)
 
-    pub check-refused-so : (n : ℕ) (rows : List ℕ) → ListOf plain most longest list n rows → n ≤ length old → (f k : ℕ) → SheetRefused longest n (matrix rows) s f k
+    pub check-refused-so : (n : ℕ) (rows : List ℕ) → ListOf plain most longest list n rows → n ≤ length old → (f k : ℕ)
+        → SheetRefused longest n (matrix rows) s f k
         → numbersOf a ≡ refusedOf theSheet f k 0
     check-refused-so n rows l h f k q =
         let r = sheet-returned n (matrix rows) longest s most f k q in
@@ -194,7 +197,8 @@ module _ (plain : Bool) (most longest : ℕ) (list s old new : List ℕ) where
       (λ w. absurd (subst (SheetMeans most (w .0) (matrix (w .1)) longest s) (sym (answer-is _ x _ (w .2 .same))) (sheet-means most (w .0) (matrix (w .1)) longest s))) v)
       (check-ways plain most longest list s (length old))
 
-  pub check-short : CheckPromiseUpTo plain most longest list s old Short new → (n : ℕ) × (rows : List ℕ) × ListOf plain most longest list n rows × (length old < n) × (new ≡ old)
+  pub check-short : CheckPromiseUpTo plain most longest list s old Short new
+      → (n : ℕ) × (rows : List ℕ) × ListOf plain most longest list n rows × (length old < n) × (new ≡ old)
   check-short x =
       ⊎-elim (λ w. let e : Short ≡ Unread (w .0) (w .1) (w .2) = answer-is _ x _ (w .3 .same) in let z : _≡_ {A = ℕ} 0 1 = cc in absurd (omega arith))
       (λ v. ⊎-elim (λ w. (w .0, w .1, w .2 .listed, w .2 .crowd, lent-is _ x _ (w .2 .same)))

@@ -60,7 +60,8 @@ module _ (plain : Bool) (most : ℕ) (t0 : Text) (room i : ℕ) (h : Head) (l : 
   before-is e n b = told .seen e .3 (b .0) n (b .1) (omega (arith, b .2)) (b .3) .0
 
   stop : (f : Fault) → Has plain most t0 room (i + 1) (numberOf f)
-      → ((g : Fault) → place listOrder (numberOf g) < place listOrder (numberOf f) → ¬ Has plain most t0 room (i + 1) (numberOf g)) → Found plain most t0 room f (i + 1)
+      → ((g : Fault) → place listOrder (numberOf g) < place listOrder (numberOf f) → ¬ Has plain most t0 room (i + 1) (numberOf g))
+      → Found plain most t0 room f (i + 1)
   stop f a b = inl (record { within = here .0; fault = a; first = λ j p. told .clean j (omega arith); lowest = low })
     where
       low : (g : ℕ) → place listOrder g < place listOrder (numberOf f) → ¬ Has plain most t0 room (i + 1) g
@@ -264,7 +265,8 @@ module _ (plain : Bool) (most : ℕ) (t0 : Text) (room i : ℕ) (h : Head) (l : 
         low Long p x = omega arith
 
     -- different entries of the list: no fault but a repeat
-    only-repeat : h .seen ≡ true → (1 ≤ u) × (u ≤ h .n) → (1 ≤ v) × (v ≤ h .n) → (u ≡ v → ⊥) → (f : Fault) → Has plain most t0 room (i + 1) (numberOf f) → numberOf f ≡ numberOf Repeat
+    only-repeat : h .seen ≡ true → (1 ≤ u) × (u ≤ h .n) → (1 ≤ v) × (v ≤ h .n) → (u ≡ v → ⊥) → (f : Fault)
+        → Has plain most t0 room (i + 1) (numberOf f) → numberOf f ≡ numberOf Repeat
     only-repeat q a b d Line x = absurd (e-not-bad Line tt x)
     only-repeat q a b d Digit x = absurd (e-not-bad Digit tt x)
     only-repeat q a b d Space x = absurd (e-not-bad Space tt x)
@@ -279,10 +281,12 @@ module _ (plain : Bool) (most : ℕ) (t0 : Text) (room i : ℕ) (h : Head) (l : 
     only-repeat q a b d Long x = absurd x
     only-repeat q a b d Repeat x = refl
 
-    pub clean-e : h .seen ≡ true → (1 ≤ u) × (u ≤ h .n) → (1 ≤ v) × (v ≤ h .n) → (u ≡ v → ⊥) → ¬ (T plain × RepeatAt t0 (i + 1)) → (f : Fault) → ¬ Has plain most t0 room (i + 1) (numberOf f)
+    pub clean-e : h .seen ≡ true → (1 ≤ u) × (u ≤ h .n) → (1 ≤ v) × (v ≤ h .n) → (u ≡ v → ⊥) → ¬ (T plain × RepeatAt t0 (i + 1)) → (f : Fault)
+        → ¬ Has plain most t0 room (i + 1) (numberOf f)
     clean-e q a b d w f x = w (subst (Has plain most t0 room (i + 1)) (only-repeat q a b d f x) x)
 
-    pub repeated : h .seen ≡ true → (1 ≤ u) × (u ≤ h .n) → (1 ≤ v) × (v ≤ h .n) → (u ≡ v → ⊥) → T plain → RepeatAt t0 (i + 1) → Found plain most t0 room Repeat (i + 1)
+    pub repeated : h .seen ≡ true → (1 ≤ u) × (u ≤ h .n) → (1 ≤ v) × (v ≤ h .n) → (u ≡ v → ⊥) → T plain → RepeatAt t0 (i + 1)
+        → Found plain most t0 room Repeat (i + 1)
     repeated q a b d p r =
         stop Repeat (p, r) (λ g l x. omega (arith, subst (λ (m : ℕ). place listOrder m < place listOrder (numberOf Repeat)) (only-repeat q a b d g x) l))
 
@@ -316,7 +320,8 @@ module _ (plain : Bool) (most : ℕ) (t0 : Text) (room i : ℕ) (h : Head) (l : 
       not-p : (n m : ℕ) → ¬ At t0 (i + 1) (P n m)
       not-p n m x = let z : _≡_ {A = ℕ} 0 1 = cc (same _ x) in omega arith
 
-  pub told-p : (n m : ℕ) → shapeOf l ≡ P n m → h .seen ≡ false → n ≤ most → n ≤ room → Told plain most t0 room (i + 1) (record { seen = true; n = n; m = m; count = 0 }) t
+  pub told-p : (n m : ℕ) → shapeOf l ≡ P n m → h .seen ≡ false → n ≤ most → n ≤ room
+      → Told plain most t0 room (i + 1) (record { seen = true; n = n; m = m; count = 0 }) t
   told-p n m e q b d = record {
     rest = rest-next t0 i l t (told .rest);
     clean = clean-more (clean-of plain most t0 room (i + 1) (clean-p n m e q b d));

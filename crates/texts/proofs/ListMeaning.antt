@@ -146,7 +146,8 @@ module _ (plain : Bool) (most longest : ℕ) (s : List ℕ) where
       → (readUpTo plain most longest s room .answer ≡ Read n) × (take n (readUpTo plain most longest s room .rows) ≡ rows)
   list-taken room n rows x h = go (readUpTo plain most longest s room .answer) refl
     where
-      go : (a : Reading) → readUpTo plain most longest s room .answer ≡ a → (readUpTo plain most longest s room .answer ≡ Read n) × (take n (readUpTo plain most longest s room .rows) ≡ rows)
+      go : (a : Reading) → readUpTo plain most longest s room .answer ≡ a
+          → (readUpTo plain most longest s room .answer ≡ Read n) × (take n (readUpTo plain most longest s room .rows) ≡ rows)
       go (Read m) e =
           let o = list-one m n _ rows (list-accepted plain most longest s room m e .0) x in
           (e ∙ ap Read (o .0), ap (λ (i : ℕ). take i (readUpTo plain most longest s room .rows)) (sym (o .0)) ∙ o .1)

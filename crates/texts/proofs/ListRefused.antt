@@ -167,8 +167,10 @@ module _ (plain : Bool) (most longest : ℕ) (s : List ℕ) (room : ℕ) where
       (from-means plain most (linesOf s) room (linesOf s) 0 start (noRowsUpTo most) (told-start plain most (linesOf s) room) (marked-start most (linesOf s))))
       (λ e. ((refl, leb-false (length s) longest e), refl))
 
-  pub list-refused : (f : Fault) (k c : ℕ) → readUpTo plain most longest s room .answer ≡ Refused f k c → ListRefused plain most longest s room (numberOf f) k c
+  pub list-refused : (f : Fault) (k c : ℕ) → readUpTo plain most longest s room .answer ≡ Refused f k c
+      → ListRefused plain most longest s room (numberOf f) k c
   list-refused f k c a = subst Meant a read-meant
 
-  pub list-clean : (n : ℕ) → readUpTo plain most longest s room .answer ≡ Read n → (j : ℕ) → j ≤ lineCount (linesOf s) → Clean (Has plain most (linesOf s) room) j
+  pub list-clean : (n : ℕ) → readUpTo plain most longest s room .answer ≡ Read n → (j : ℕ) → j ≤ lineCount (linesOf s)
+      → Clean (Has plain most (linesOf s) room) j
   list-clean n a = subst Meant a read-meant

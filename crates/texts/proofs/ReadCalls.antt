@@ -41,7 +41,8 @@ numbers-are t Count k c h w = ap (refusedWith 16 k) (sym w)
 numbers-are t Long k c h w = ap (λ (j : ℕ). refusedWith 18 j 0) (sym (h refl)) ∙ ap (refusedWith 18 k) (sym w)
 
 module _ (plain : Bool) (most longest : ℕ) (s old new : List ℕ) where
-  pub read-accepted : (n : ℕ) → ReadPromiseUpTo plain most longest s old (Read n) new → ListOf plain most longest s n (take n new) × (n ≤ length old) × (drop n new ≡ drop n old)
+  pub read-accepted : (n : ℕ) → ReadPromiseUpTo plain most longest s old (Read n) new
+      → ListOf plain most longest s n (take n new) × (n ≤ length old) × (drop n new ≡ drop n old)
   read-accepted n x =
       let a = sym (x .answer) in
       let g = readUpTo plain most longest s (length old) .rows in

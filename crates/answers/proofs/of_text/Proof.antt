@@ -49,13 +49,15 @@ slice-aggregate-of-rows c = simp (length-take) (omega (arith, few (c .before), r
 of-rows-requires : tie.Need-of-rows-requires
 of-rows-requires c κs =
     let g = c .before .before .before .before .before in
-    list-sound (g .before .before .args .plain) (g .before .before .args .text .now) (g .gather .result) (g .gather .ensures) _ (c .before .before .answer .given .1)
+    list-sound (g .before .before .args .plain) (g .before .before .args .text .now) (g .gather .result) (g .gather .ensures) _
+    (c .before .before .answer .given .1)
 
 returns : tie.Need-returns
 returns c =
     let g = c .before .before .before .before .before .before in
     subst (λ (x : List ℕ). IsText x (c .of-rows .result))
-    (sym (printed-read (g .before .before .args .plain) (g .before .before .args .text .now) (g .gather .result) (g .gather .ensures) _ (c .before .before .before .answer .given .1))) (c .of-rows .ensures)
+    (sym (printed-read (g .before .before .args .plain) (g .before .before .args .text .now) (g .gather .result) (g .gather .ensures) _
+    (c .before .before .before .answer .given .1))) (c .of-rows .ensures)
 
 column-requires : tie.Need-column-requires
 column-requires c κs = search needs
@@ -87,7 +89,8 @@ returns-2 c =
     let q = r .refusal-of .result in
     let t = c .refused .result in
     subst (λ (x : List ℕ). IsText x t)
-    (sym (printed-numbers (g .before .before .args .plain) (g .before .before .args .text .now) (g .gather .result) (g .gather .ensures) _ _ _ (a .answer2 .given .1)))
+    (sym (printed-numbers (g .before .before .args .plain) (g .before .before .args .text .now) (g .gather .result) (g .gather .ensures) _ _ _
+    (a .answer2 .given .1)))
     (subst (λ (q : Refusal). IsText (refusedText (numberOf q) (told q k .line) (toldAt q 0 j .column)) t) (r .refusal-of .ensures)
     (subst (λ (m : ℕ). IsText (refusedText (numberOf q) (told q k .line) m) t) (d .column .ensures)
     (subst (λ (m : ℕ). IsText (refusedText (numberOf q) m (d .column .result)) t) (l .line .ensures)

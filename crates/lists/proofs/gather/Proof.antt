@@ -48,9 +48,12 @@ turned c =
     let e = c .before .before .before .before .line-end in
     let l = closed (c .before .before .before) in
     ⊎-elim
-    (λ w. turned-go (a .plain) mostEntries (a .text .now) (a .room) (b .loop .at) (e .result) (b .loop .line) (b .loop .h) (b .loop .rows) (e .ensures .0) l (b .loop .inv .5) (b .loop .inv .4)
+    (λ w. turned-go (a .plain) mostEntries (a .text .now) (a .room) (b .loop .at) (e .result) (b .loop .line) (b .loop .h) (b .loop .rows) (e .ensures .0) l
+    (b .loop .inv .5) (b .loop .inv .4)
     (w .1 .given .0 .0) (stepped (c .before) ∙ w .1 .given .1) _ _ (w .3) (w .4))
-    (λ w. turned-edge (a .plain) mostEntries (a .text .now) (a .room) (b .loop .at) (e .result) (b .loop .line) (b .loop .h) (b .loop .rows) (e .ensures .0) l (b .loop .inv .5) (b .loop .inv .4)
+    (λ w. turned-edge (a .plain) mostEntries (a .text .now) (a .room) (b .loop .at) (e .result) (b .loop .line) (b .loop .h) (b .loop .rows)
+    (e .ensures .0) l
+    (b .loop .inv .5) (b .loop .inv .4)
     (w .1 .given .0 .0) (w .1 .given .0 .1 .0) (w .1 .given .0 .1 .1 .0) (stepped (c .before) ∙ w .1 .given .1)
     (sym (w .4 .ensures) ∙ w .5 .left) _ _ _ _ (w .7 .ensures) (w .9 .ensures) (w .10) (w .11))
     (c .match .came)
@@ -61,14 +64,17 @@ below c =
     let b = c .before .before .before .before .before .before .before .before .loop in
     let a = c .before .before .before .before .before .before .before .before .before .before .before .args in
     ends-below (a .plain) mostEntries (a .text .now) (a .room) (b .at) _ (b .line) (b .h) (b .rows)
-    (c .before .before .before .before .before .before .line-end .ensures .0) (closed (c .before .before .before .before .before)) (b .inv .5) (b .inv .4) _ _ _
+    (c .before .before .before .before .before .before .line-end .ensures .0) (closed (c .before .before .before .before .before)) (b .inv .5)
+    (b .inv .4) _ _ _
     (stepped (c .before .before .before) ∙ c .before .g2 .given .1)
 
 refused-requires : tie.Need-refused-requires Inv-loop μ-loop
 refused-requires c κs = search needs
 
 returns : tie.Need-returns Inv-loop μ-loop
-returns c = c .refused .ensures ∙ sym (read-long (c .before .before .before .args .plain) mostEntries longestText (c .before .before .before .args .text .now) (c .before .before .before .args .room) (c .before .if1 .taken))
+returns c =
+    let a = c .before .before .before .args in
+    c .refused .ensures ∙ sym (read-long (a .plain) mostEntries longestText (a .text .now) (a .room) (c .before .if1 .taken))
 
 loop-holds : tie.Need-loop-holds Inv-loop μ-loop
 loop-holds c = (omega arith, omega arith, omega arith, omega arith, omega arith, refl, refl)
@@ -125,7 +131,8 @@ returns-3 c =
     let b = c .before .before .before .before .before .before .before .before .before .loop in
     let a = c .before .before .before .before .before .before .before .before .before .before .before .before .args in
     c .refused-at2 .ensures
-    ∙ sym (turn (a .plain) mostEntries (a .text .now) (a .room) (b .at) _ _ (b .h) (b .rows) (c .before .before .before .before .before .before .before .line-end .ensures .0)
+    ∙ sym (turn (a .plain) mostEntries (a .text .now) (a .room) (b .at) _ _ (b .h) (b .rows)
+    (c .before .before .before .before .before .before .before .line-end .ensures .0)
     (closed (c .before .before .before .before .before .before)) _
     (stepped (c .before .before .before .before) ∙ c .before .before .spot .given .1)) ∙ b .inv .6
     ∙ read-short (a .plain) mostEntries longestText (a .text .now) (a .room) (b .inv .1)
@@ -141,9 +148,11 @@ returns-4 c =
     let b = c .before .before .before .before .before .before .before .before .before .loop in
     let a = c .before .before .before .before .before .before .before .before .before .before .before .before .args in
     c .refused2 .ensures ∙ sym
-    (turn (a .plain) mostEntries (a .text .now) (a .room) (b .at) _ _ (b .h) (b .rows) (c .before .before .before .before .before .before .before .line-end .ensures .0)
+    (turn (a .plain) mostEntries (a .text .now) (a .room) (b .at) _ _ (b .h) (b .rows)
+    (c .before .before .before .before .before .before .before .line-end .ensures .0)
     (closed (c .before .before .before .before .before .before)) _
-    (stepped (c .before .before .before .before) ∙ c .before .before .why .given .1)) ∙ b .inv .6 ∙ read-short (a .plain) mostEntries longestText (a .text .now) (a .room) (b .inv .1)
+    (stepped (c .before .before .before .before) ∙ c .before .before .why .given .1)) ∙ b .inv .6
+    ∙ read-short (a .plain) mostEntries longestText (a .text .now) (a .room) (b .inv .1)
 
 enum-known-g : tie.Need-enum-known-g Inv-loop μ-loop
 enum-known-g c = search needs
@@ -163,7 +172,8 @@ returns-5 c =
     let b = d .before .before .before .before .before .before .before .before .loop in
     let a = d .before .before .before .before .before .before .before .before .before .before .before .args in
     c .refused3 .ensures ∙ sym (repeated (a .plain) mostEntries (a .text .now) (a .room) (b .at) _ (b .line) (b .h) (b .rows)
-    (d .before .before .before .before .before .before .line-end .ensures .0) (closed (d .before .before .before .before .before)) (b .inv .5) (b .inv .4) _ _ _
+    (d .before .before .before .before .before .before .line-end .ensures .0) (closed (d .before .before .before .before .before)) (b .inv .5)
+    (b .inv .4) _ _ _
     (stepped (d .before .before .before) ∙ d .before .g2 .given .1) (sym (c .before .before .repeats .ensures) ∙ c .before .if3 .taken))
     ∙ b .inv .6 ∙ read-short (a .plain) mostEntries longestText (a .text .now) (a .room) (b .inv .1)
 
@@ -205,7 +215,9 @@ returns-6 : tie.Need-returns-6 Inv-loop μ-loop
 returns-6 c =
     let b = c .before .before .loop in
     let a = c .before .before .before .before .before .args in
-    c .ended .ensures ∙ sym (read-ends (a .plain) mostEntries (a .text .now) (a .room) (b .at) _ (b .h) (b .rows) (c .before .loop-test .left)) ∙ b .inv .6 ∙ read-short (a .plain) mostEntries longestText (a .text .now) (a .room) (b .inv .1)
+    c .ended .ensures
+    ∙ sym (read-ends (a .plain) mostEntries (a .text .now) (a .room) (b .at) _ (b .h) (b .rows) (c .before .loop-test .left)) ∙ b .inv .6
+    ∙ read-short (a .plain) mostEntries longestText (a .text .now) (a .room) (b .inv .1)
 
 pub gather-spec : {M : Type 1} → statement M
 gather-spec =
