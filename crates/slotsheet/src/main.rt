@@ -1,5 +1,5 @@
-// slotsheet: reads a clash text from standard input and prints its sitting sheet, or "refused R line L". Started with --repeats it allows an edge to
-// stand more than once; without it such an edge is refused.
+// slotsheet: reads a clash text from standard input and prints its sitting sheet, or "refused R line L", with " column C" where there is a column.
+// Started with --repeats it allows an edge to stand more than once; without it such an edge is refused.
 // The program only reads, calls and writes: the very bytes that it prints are the library's answer.
 use answers::Printed;
 use libc::STDERR_FILENO;
