@@ -78,9 +78,9 @@ def check_sheet(sheet, n, rows):
     return 0, 0, groups, colours
 
 
-def check(text, sheet, room):
-    """(number, line, column, which text, k, colours) of a pair."""
-    number, line, column, n, rows = read(text, 64)
+def check(text, sheet, room, repeats):
+    """(number, line, column, which text, k, colours) of a pair. `repeats` allows an edge of the list to stand a second time."""
+    number, line, column, n, rows = read(text, 64, repeats)
     if number:
         return number, line, column, 1, 0, []
     if room < n:
@@ -204,14 +204,15 @@ def case_input():
 def output():
     out = []
     for at, (text, sheet, room) in enumerate(pairs(), 1):
-        number, line, column, which, k, colours = check(text, sheet, room)
-        lent = [b"%d" % group for group in colours] + [b"-"] * (room - len(colours))
-        part = shown(text if which == 1 else sheet, line)
-        out.append(b"%d number %d line %d column %d text %d groups %d colours" % (at, number, line, column, which, k))
-        out.append(b"".join(b" " + byte for byte in lent))
-        out.append(b" shown %d [" % len(part) + part + b"]\n")
-        if number == 0:
-            out.append(written(colours))
+        for name, repeats in ((b"", False), (b"repeats ", True)):
+            number, line, column, which, k, colours = check(text, sheet, room, repeats)
+            lent = [b"%d" % group for group in colours] + [b"-"] * (room - len(colours))
+            part = shown(text if which == 1 else sheet, line)
+            out.append(b"%d %snumber %d line %d column %d text %d groups %d colours" % (at, name, number, line, column, which, k))
+            out.append(b"".join(b" " + byte for byte in lent))
+            out.append(b" shown %d [" % len(part) + part + b"]\n")
+            if number == 0:
+                out.append(written(colours))
     for colours in COLOURS:
         out.append(written(colours))
     return b"".join(out)
