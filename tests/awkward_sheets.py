@@ -119,6 +119,7 @@ def listed(n, *edges):
 SHEET = b"groups 3\nsize 2\n1\n3\nsize 2\n2\n4\nsize 1\n5\n"
 PATH = listed(3, (1, 2), (2, 3))  # 2 clashes with both others
 PAIR = b"groups 2\nsize 2\n1\n3\nsize 1\n2\n"
+BOTH = listed(3, (1, 2), (2, 1), (2, 3), (3, 2))  # the same, each clash both ways
 FREE = listed(4)  # no clashes
 EMPTY = listed(0)
 
@@ -135,6 +136,9 @@ def pairs():
         (b"", SHEET, 5), (b"x\n", b"", 0), (FIVE[:-1], SHEET, 5), (b"e 1 2\n", SHEET, 5), (FIVE + b"p edge 5 5\n", SHEET, 5), (b"p edge 65 0\n", SHEET, 70),
         (b"p edge 3 1\ne 1 4\n", PAIR, 3), (b"c y\np edge 3 1\ne 2 2\n", PAIR, 0), (b"p edge 3 2\ne 1 2\n", b"groups 0\n", 0), (b"c x\nc y\n", PAIR, 3),
         (padded(FIVE, 65537), SHEET, 5),
+        # 20 of the list; where repeats are allowed, the sheet's own
+        (BOTH, PAIR, 3), (BOTH, b"groups 1\nsize 3\n1\n2\n3\n", 3), (BOTH, PAIR, 2), (BOTH, b"", 3), (listed(3, (1, 2), (1, 2)), PAIR, 3), (BOTH + b"e 4 4\n", PAIR, 3),
+        (b"p edge 3 1\ne 3 2\ne 2 3\n", PAIR, 3),
         # 5: too few colour bytes, before anything of the sheet
         (FIVE, SHEET, 4), (FIVE, b"", 0), (FIVE, b"x" * 65537, 4), (listed(1), b"groups 0\n", 0), (listed(64), b"size", 63),
         # 18, and just not
