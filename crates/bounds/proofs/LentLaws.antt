@@ -9,7 +9,7 @@ use types.Run.{OneOf, miss}
 use denote.Enum.Declared.{tagOf}
 use Rattle.clashes.proofs.Verdict.{the-type}
 use Rattle.sets.specs.Set.{size}
-use Rattle.clashes.specs.Matrix.{matrix, Sound, JudgedUpTo}
+use Rattle.clashes.specs.Matrix.{matrix, SoundUpTo, JudgedUpTo}
 use Rattle.clashes.specs.Colouring.{Chromatic}
 use Rattle.clashes.specs.declared.Verdict.{Verdict}
 use Rattle.clashes.specs.declared.Verdict.the-variants.{Valid, Many, Stray, Itself, OneSided}
@@ -18,7 +18,7 @@ use Rattle.graphs.specs.Graph.{Graph}
 use Rattle.graphs.specs.Held.{view}
 use Rattle.graphs.specs.Acts.{IsRoot}
 use Rattle.graphs.specs.declared.Node.{Node}
-use Rattle.bounds.specs.Lent.{verdictOf, valueOf, membersOf, answerOf, AnswersUpTo, Answers, AllClash}
+use Rattle.bounds.specs.Lent.{ofList, verdictOf, valueOf, membersOf, answerOf, AnswersUpTo, AllClash}
 use Rattle.bounds.specs.Names.{cliqueSet, cliqueBound}
 use Rattle.bounds.specs.declared.Bound.{Bound}
 use Rattle.bounds.specs.declared.Bound.the-variants.{At, Many as many, Stray as stray, Itself as itself, OneSided as oneSided}
@@ -51,12 +51,14 @@ answer-same (OneSided i) b b′ c c′ h k = refl
 pub by-tag : (v : Verdict) → OneOf (1 ∷ 2 ∷ 3 ∷ 4 ∷ []) (tagOf the-type v) → v ≢ Valid
 by-tag v h e = miss (1 ∷ 2 ∷ 3 ∷ 4 ∷ []) 0 tt (subst (λ (x : Verdict). OneOf (1 ∷ 2 ∷ 3 ∷ 4 ∷ []) (tagOf the-type x)) e h)
 
--- the root's bound is the list's
-pub accepted : (f s : ℕ → Graph → ℕ) (rows : List ℕ) (h : Node) (b c : ℕ) → Sound rows → IsRoot rows h → b ≡ f (h .n) (view h) → c ≡ s (h .n) (view h)
-    → Answers f s rows (At b c)
-accepted f s rows h b c o r e d = record { verdict = o; value = λ v. e ∙ ap₂ f (r .same) (r .is); members = λ v. d ∙ ap₂ s (r .same) (r .is) }
+-- what is so of the root is so of the list
+pub root-list : (f : ℕ → Graph → ℕ) (rows : List ℕ) (h : Node) → IsRoot rows h → f (h .n) (view h) ≡ ofList f rows
+root-list f rows h r = ap₂ f (r .same) (r .is)
 
 module _ (most : ℕ) (f s : ℕ → Graph → ℕ) (rows : List ℕ) where
+  pub accepted : (b c : ℕ) → SoundUpTo most rows → b ≡ ofList f rows → c ≡ ofList s rows → AnswersUpTo most f s rows (At b c)
+  accepted b c o e d = record { verdict = o; value = λ v. e; members = λ v. d }
+
   pub refused : (v : Verdict) → JudgedUpTo most rows v → v ≢ Valid → AnswersUpTo most f s rows (answerOf v 0 0)
   refused v d n = record {
     verdict = subst (JudgedUpTo most rows) (sym (verdict-is v 0 0)) d;

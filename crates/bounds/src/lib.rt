@@ -9,9 +9,10 @@ use mycielski::bound_up_to;
 use sets::size;
 ghost use mathlib.Core.Path.{_≡_};
 ghost use lib.Dec.{leb};
+ghost use Rattle.clashes.specs.Matrix.{Sound};
 ghost use Rattle.graphs.specs.Held.{view, Held, Holds, Each};
 ghost use Rattle.bounds.specs.Names.{cliqueSet, cliqueBound, mycielskian};
-ghost use Rattle.bounds.specs.Lent.{answerOf, noMembers, Answers};
+ghost use Rattle.bounds.specs.Lent.{ofList, answerOf, noMembers, Answers};
 
 // A bound of a lent matrix, with the members of the clique where it is that one's size; or document 01's refusals 1 to 4 with the lowest row at fault.
 pub enum Bound {
@@ -22,11 +23,12 @@ pub enum Bound {
     OneSided(usize),
 }
 
-// The clique of a node, as the set of its members.
-pub fn clique_at(h: Node) -> u64
-    requires { ⌜ Held h ⌝ }
-    ensures { λ r. ⌜ r ≡ cliqueSet (h .n) (view h) ⌝ }
+// The clique of a list's graph, as the set of its members.
+pub fn clique_of(rows: &[u64]) -> u64
+    requires { ⌜ Sound (now rows) ⌝ }
+    ensures { λ r. ⌜ r ≡ ofList cliqueSet (now (rows .entry)) ⌝ }
 {
+    let h = root(rows);
     clique(h)
 }
 
@@ -68,7 +70,7 @@ pub fn clique_bound(rows: &[u64]) -> Bound
 {
     let v = validity(rows);
     if let Verdict::Valid = v {
-        let members = clique_at(root(rows));
+        let members = clique_of(rows);
         return Bound::At(size(members), members);
     }
     unbounded(v)

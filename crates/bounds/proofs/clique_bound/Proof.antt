@@ -3,6 +3,9 @@ use mathlib.Core.Path.{sym, ap, _∙_, subst}
 use borrow.Author.Needs.{needs}
 use Rattle.sets.specs.Set.{size}
 use Rattle.clashes.specs.Matrix.{Judged}
+use Rattle.clashes.specs.declared.Verdict.the-variants.{Valid}
+use Rattle.clashes.proofs.MatrixLaws.{sound-valid}
+use Rattle.graphs.proofs.SplitLaws.{good-graph}
 use Rattle.bounds.specs.Names.{cliqueSet, cliqueBound}
 use Rattle.bounds.specs.Lent.{Answers}
 use Rattle.bounds.proofs.LentLaws.{by-tag, accepted, refused}
@@ -16,13 +19,12 @@ validity-requires c κs = search needs
 enum-told : tie.Need-enum-told
 enum-told c = search needs
 
-root-requires : tie.Need-root-requires
-root-requires c κs =
-    let v = c .before .before in
-    subst (Judged (v .before .before .args .rows .now)) (c .enum-told .given .1) (v .validity .ensures)
+-- the rows are a list's
+sound : (c : tie.After-enum-told) → Judged (c .before .before .before .before .args .rows .now) Valid
+sound c = let v = c .before .before in subst (Judged (v .before .before .args .rows .now)) (c .enum-told .given .1) (v .validity .ensures)
 
-clique-at-requires : tie.Need-clique-at-requires
-clique-at-requires c κs = search needs
+clique-of-requires : tie.Need-clique-of-requires
+clique-of-requires c κs = sound c
 
 size-requires : tie.Need-size-requires
 size-requires c κs = search needs
@@ -30,12 +32,10 @@ size-requires c κs = search needs
 returns : tie.Need-returns
 returns c =
     let m = c .before in
-    let r = m .before in
-    let v = r .before .before .before in
-    let e = r .root .ensures in
-    accepted cliqueBound cliqueSet (v .before .before .args .rows .now) (r .root .result) (c .size .result) (m .clique-at .result)
-    (subst (Judged (v .before .before .args .rows .now)) (r .before .enum-told .given .1) (v .validity .ensures)) e
-    (c .size .ensures ∙ ap (size 64) (m .clique-at .ensures) ∙ clique-size _ _ (e .held .good) 64 (e .held .few)) (m .clique-at .ensures)
+    let rows = m .before .before .before .before .before .args .rows .now in
+    let o = sound (m .before) in
+    accepted 64 cliqueBound cliqueSet rows (c .size .result) (m .clique-of .result) o
+    (c .size .ensures ∙ ap (size 64) (m .clique-of .ensures) ∙ clique-size _ _ (good-graph _ _ (sound-valid rows o)) 64 (o .apart .inside .few)) (m .clique-of .ensures)
 
 unbounded-requires : tie.Need-unbounded-requires
 unbounded-requires c κs = search needs
@@ -47,4 +47,4 @@ returns-2 c =
     (refused 64 cliqueBound cliqueSet (v .before .before .args .rows .now) (v .validity .result) (v .validity .ensures) (by-tag (v .validity .result) (c .before .match .keys2)))
 
 pub clique-bound-spec : {M : Type 1} → statement M
-clique-bound-spec = tie.close (tie.spec validity-requires enum-told root-requires clique-at-requires size-requires returns unbounded-requires returns-2)
+clique-bound-spec = tie.close (tie.spec validity-requires enum-told clique-of-requires size-requires returns unbounded-requires returns-2)
