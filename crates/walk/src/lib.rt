@@ -1,5 +1,6 @@
 // Document 01's two walks over the Zykov tree of a lent clash list, each with a budget of nodes, all on the stack. A merged graph gets rows of its own;
 // a node's own rows become those of the separated graph.
+use bounds::clique_of;
 use bounds::reaches;
 use clashes::Verdict;
 use clashes::validity;
@@ -22,12 +23,12 @@ ghost use Rattle.zykov.specs.Tree.{below};
 ghost use Rattle.zykov.specs.Walk.{become, compare, bounded, plain as plainRule, boundedWalk, plainWalk};
 ghost use Rattle.zykov.specs.Budget.{within, onward};
 ghost use Rattle.walk.specs.Going.{Starts, Ready, ReadyAt, Comes, counted as countedOf, stateOf, Found};
-ghost use Rattle.walk.specs.Promise.{Promised, Gated, Told, writtenOf};
+ghost use Rattle.walk.specs.Promise.{Open, Promised, Gated, Told, writtenOf};
 
-// The answer of a walk: accepted, with the fewest groups, the nodes entered and the plain walk's complete graphs; or refused, with the row at
-// fault or the nodes entered.
+// The answer of a walk: accepted, with the fewest groups, the nodes entered, the plain walk's complete graphs and the clique of the starting graph; or
+// refused, with the row at fault or the nodes entered.
 pub enum Answer {
-    Accepted(usize, u64, u64),
+    Accepted(usize, u64, u64, u64),
     Many,
     Stray(usize),
     Itself(usize),
@@ -246,11 +247,12 @@ fn written(n: usize, s: State) -> usize
     n
 }
 
-// The answer of a walk that came to s. Where it is accepted the colours are written.
-fn told(n: usize, s: State, colours: &mut [u8]) -> Answer
-    requires { ⌜ (n ≤ 64) × (n ≤ length (now colours)) ⌝ }
-    ensures { λ r. ⌜ Told n s (now (colours .entry)) r (now (colours .exit)) ⌝ }
+// The answer of a walk over these rows that came to s. Where it is accepted the colours are written, and the clique is found.
+fn told(rows: &[u64], s: State, colours: &mut [u8]) -> Answer
+    requires { ⌜ Open (now rows) (length (now colours)) ⌝ }
+    ensures { λ r. ⌜ Told (now (rows .entry)) s (now (colours .entry)) r (now (colours .exit)) ⌝ }
 {
+    let n = rows.len();
     let m = written(n, s);
     let best = s.best;
     let mut i: usize = 0;
@@ -261,10 +263,10 @@ fn told(n: usize, s: State, colours: &mut [u8]) -> Answer
     if s.out {
         return Answer::Budget(s.budget);
     }
-    Answer::Accepted(s.k, s.nodes, s.leaves)
+    Answer::Accepted(s.k, s.nodes, s.leaves, clique_of(rows))
 }
 
-// The fewest sittings of a lent clash list, by the bounded walk: k and nodes, and each entry's sitting in the lent bytes.
+// The fewest sittings of a lent clash list, by the bounded walk: k, nodes and the clique, and each entry's sitting in the lent bytes.
 pub fn fewest(rows: &[u64], colours: &mut [u8], budget: u64) -> Answer
     ensures { λ r. ⌜ Promised (boundedWalk mycielskian) (now (rows .entry)) (now (colours .entry)) budget r (now (colours .exit)) ⌝ }
 {
@@ -277,12 +279,12 @@ pub fn fewest(rows: &[u64], colours: &mut [u8], budget: u64) -> Answer
             let mut held = h.rows;
             let names = h.names;
             let s = enter(n, h.live, &mut held, &names, start(n, budget));
-            told(n, s, colours)
+            told(rows, s, colours)
         }
     }
 }
 
-// The same by the plain walk, which has no bounds: k, nodes and complete graphs.
+// The same by the plain walk, which has no bounds: k, nodes, complete graphs and the clique.
 pub fn plain(rows: &[u64], colours: &mut [u8], budget: u64) -> Answer
     ensures { λ r. ⌜ Promised plainWalk (now (rows .entry)) (now (colours .entry)) budget r (now (colours .exit)) ⌝ }
 {
@@ -295,7 +297,7 @@ pub fn plain(rows: &[u64], colours: &mut [u8], budget: u64) -> Answer
             let mut held = h.rows;
             let names = h.names;
             let s = explore(n, h.live, &mut held, &names, start(n, budget));
-            told(n, s, colours)
+            told(rows, s, colours)
         }
     }
 }

@@ -36,7 +36,7 @@ explore-requires : tie.Need-explore-requires
 explore-requires c κs = ready-start _ _ _ _ (root-parts _ _ (c .before .before .before .before .before .root .ensures)) (c .start .ensures)
 
 told-requires : tie.Need-told-requires
-told-requires c κs = let o = opened (c .before .before .before .before .before .before .before .before) in (o .sound .apart .inside .few, o .bytes)
+told-requires c κs = opened (c .before .before .before .before .before .before .before .before)
 
 returns : tie.Need-returns
 returns c =
