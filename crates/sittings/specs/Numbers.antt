@@ -16,7 +16,7 @@ use Rattle.refusals.specs.Table.{accepted, told}
 use Rattle.refusals.specs.declared.Refusal.the-variants.{Full as full}
 use Rattle.clashes.specs.Matrix.{numbers}
 use Rattle.clashes.specs.declared.Verdict.{Verdict}
-use Rattle.bounds.specs.Lent.{verdictOf, valueOf}
+use Rattle.bounds.specs.Lent.{verdictOf, valueOf, membersOf}
 use Rattle.bounds.specs.declared.Bound.{Bound}
 use Rattle.walk.specs.Promise as walk
 use Rattle.walk.specs.declared.Answer.{Answer}
@@ -42,7 +42,7 @@ abbrev pub verdictNumbers : Verdict → VerdictNumbers
 verdictNumbers v = record { refusal = numbers v .number; row = numbers v .row }
 
 abbrev pub boundNumbers : Bound → BoundNumbers
-boundNumbers b = record { refusal = numbers (verdictOf b) .number; row = numbers (verdictOf b) .row; bound = valueOf b }
+boundNumbers b = record { refusal = numbers (verdictOf b) .number; row = numbers (verdictOf b) .row; bound = valueOf b; members = membersOf b }
 
 abbrev pub walkNumbers : Answer → WalkNumbers
 walkNumbers a = record {
@@ -51,6 +51,7 @@ walkNumbers a = record {
   k = walk.numbers a .k;
   nodes = walk.numbers a .nodes;
   leaves = walk.numbers a .leaves;
+  clique = walk.numbers a .clique;
 }
 
 abbrev pub readNumbers : Reading → ReadNumbers

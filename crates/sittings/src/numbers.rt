@@ -18,13 +18,16 @@ pub struct VerdictNumbers {
     pub row: usize,
 }
 
+// `members` is the clique's set: bit i where entry i is in it.
 #[repr(C)]
 pub struct BoundNumbers {
     pub refusal: usize,
     pub row: usize,
     pub bound: usize,
+    pub members: u64,
 }
 
+// `clique` is the set of the starting graph's clique, as in `BoundNumbers`.
 #[repr(C)]
 pub struct WalkNumbers {
     pub refusal: usize,
@@ -32,6 +35,7 @@ pub struct WalkNumbers {
     pub k: usize,
     pub nodes: u64,
     pub leaves: u64,
+    pub clique: u64,
 }
 
 #[repr(C)]
@@ -94,30 +98,35 @@ pub fn of_bound(b: Bound) -> BoundNumbers
     ensures { λ r. ⌜ r ≡ boundNumbers b ⌝ }
 {
     match b {
-        Bound::At(bound) => BoundNumbers {
+        Bound::At(bound, members) => BoundNumbers {
             refusal: 0,
             row: 0,
             bound,
+            members,
         },
         Bound::Many => BoundNumbers {
             refusal: number(Refusal::Many),
             row: 0,
             bound: 0,
+            members: 0,
         },
         Bound::Stray(row) => BoundNumbers {
             refusal: number(Refusal::Stray),
             row,
             bound: 0,
+            members: 0,
         },
         Bound::Itself(row) => BoundNumbers {
             refusal: number(Refusal::Itself),
             row,
             bound: 0,
+            members: 0,
         },
         Bound::OneSided(row) => BoundNumbers {
             refusal: number(Refusal::OneSided),
             row,
             bound: 0,
+            members: 0,
         },
     }
 }
@@ -126,12 +135,13 @@ pub fn of_walk(a: Answer) -> WalkNumbers
     ensures { λ r. ⌜ r ≡ walkNumbers a ⌝ }
 {
     match a {
-        Answer::Accepted(k, nodes, leaves) => WalkNumbers {
+        Answer::Accepted(k, nodes, leaves, clique) => WalkNumbers {
             refusal: 0,
             row: 0,
             k,
             nodes,
             leaves,
+            clique,
         },
         Answer::Many => WalkNumbers {
             refusal: number(Refusal::Many),
@@ -139,6 +149,7 @@ pub fn of_walk(a: Answer) -> WalkNumbers
             k: 0,
             nodes: 0,
             leaves: 0,
+            clique: 0,
         },
         Answer::Stray(row) => WalkNumbers {
             refusal: number(Refusal::Stray),
@@ -146,6 +157,7 @@ pub fn of_walk(a: Answer) -> WalkNumbers
             k: 0,
             nodes: 0,
             leaves: 0,
+            clique: 0,
         },
         Answer::Itself(row) => WalkNumbers {
             refusal: number(Refusal::Itself),
@@ -153,6 +165,7 @@ pub fn of_walk(a: Answer) -> WalkNumbers
             k: 0,
             nodes: 0,
             leaves: 0,
+            clique: 0,
         },
         Answer::OneSided(row) => WalkNumbers {
             refusal: number(Refusal::OneSided),
@@ -160,6 +173,7 @@ pub fn of_walk(a: Answer) -> WalkNumbers
             k: 0,
             nodes: 0,
             leaves: 0,
+            clique: 0,
         },
         Answer::Short => WalkNumbers {
             refusal: number(Refusal::Short),
@@ -167,6 +181,7 @@ pub fn of_walk(a: Answer) -> WalkNumbers
             k: 0,
             nodes: 0,
             leaves: 0,
+            clique: 0,
         },
         Answer::Budget(nodes) => WalkNumbers {
             refusal: number(Refusal::Budget),
@@ -174,6 +189,7 @@ pub fn of_walk(a: Answer) -> WalkNumbers
             k: 0,
             nodes,
             leaves: 0,
+            clique: 0,
         },
         Answer::Deep => WalkNumbers {
             refusal: number(Refusal::Deep),
@@ -181,6 +197,7 @@ pub fn of_walk(a: Answer) -> WalkNumbers
             k: 0,
             nodes: 0,
             leaves: 0,
+            clique: 0,
         },
     }
 }
