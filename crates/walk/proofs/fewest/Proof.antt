@@ -5,7 +5,7 @@ use lib.ListN.{length}
 use Rattle.zykov.specs.Walk.{bounded, boundedWalk}
 use Rattle.bounds.specs.Names.{mycielskian}
 use Rattle.walk.specs.Promise.{Open, Gated}
-use Rattle.walk.proofs.Starting.{root-parts, ready-start}
+use Rattle.steps.proofs.Starting.{root-parts, ready-start}
 use Rattle.walk.proofs.Answers.{bounded-answers}
 use Rattle.walk.proofs.Meets.{promised-told, promised-refused}
 use Rattle.walk.proofs.fewest.Statement.{statement}

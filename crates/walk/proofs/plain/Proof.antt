@@ -4,7 +4,7 @@ use borrow.Author.Needs.{needs}
 use lib.ListN.{length}
 use Rattle.zykov.specs.Walk.{plain, plainWalk}
 use Rattle.walk.specs.Promise.{Open, Gated}
-use Rattle.walk.proofs.Starting.{root-parts, ready-start}
+use Rattle.steps.proofs.Starting.{root-parts, ready-start}
 use Rattle.walk.proofs.Answers.{plain-answers}
 use Rattle.walk.proofs.Meets.{promised-told, promised-refused}
 use Rattle.walk.proofs.plain.Statement.{statement}
