@@ -69,7 +69,8 @@ module _ (most : ℕ) (f s : ℕ → Graph → ℕ) (rows : List ℕ) where
   pub answers-unique : (a b : Bound) → AnswersUpTo most f s rows a → AnswersUpTo most f s rows b → a ≡ b
   answers-unique a b p q =
       sym (answer-is a) ∙ ap (λ (v : Verdict). answerOf v (valueOf a) (membersOf a)) same
-      ∙ answer-same (verdictOf b) (valueOf a) (valueOf b) (membersOf a) (membersOf b) (λ e. p .value (same ∙ e) ∙ sym (q .value e)) (λ e. p .members (same ∙ e) ∙ sym (q .members e))
+      ∙ answer-same (verdictOf b) (valueOf a) (valueOf b) (membersOf a) (membersOf b) (λ e. p .value (same ∙ e) ∙ sym (q .value e))
+      (λ e. p .members (same ∙ e) ∙ sym (q .members e))
       ∙ answer-is b
     where
       same : verdictOf a ≡ verdictOf b
@@ -78,7 +79,8 @@ module _ (most : ℕ) (f s : ℕ → Graph → ℕ) (rows : List ℕ) where
 -- what the clique bound answers: entries that all clash with one another, as many as it says, and so no more than the fewest sittings
 module _ (most : ℕ) (rows : List ℕ) (b c : ℕ) (p : AnswersUpTo most cliqueBound cliqueSet rows (At b c)) where
   pub bound-clash : AllClash (length rows) (matrix rows) c
-  bound-clash = subst (AllClash (length rows) (matrix rows)) (sym (p .members refl)) (clique-clash (length rows) (matrix rows) (sound-valid rows (p .verdict)))
+  bound-clash =
+      subst (AllClash (length rows) (matrix rows)) (sym (p .members refl)) (clique-clash (length rows) (matrix rows) (sound-valid rows (p .verdict)))
 
   pub bound-many : size (length rows) c ≡ b
   bound-many = ap (size (length rows)) (p .members refl) ∙ clique-many (length rows) (matrix rows) (sound-valid rows (p .verdict)) ∙ sym (p .value refl)

@@ -148,4 +148,5 @@ pub record Confirmed (r : Row) : Type 0 where
 
 abbrev pub Shows : List ℕ × ℕ → Type 0
 Shows p =
-    (walk : ℕ → (ℕ → ℕ → Bool) → State) (before after : List ℕ) (budget k m l c : ℕ) → Promised walk (p .0) before budget (Accepted k m l c) after → c ≡ p .1
+    (walk : ℕ → (ℕ → ℕ → Bool) → State) (before after : List ℕ) (budget k m l c : ℕ)
+    → Promised walk (p .0) before budget (Accepted k m l c) after → c ≡ p .1

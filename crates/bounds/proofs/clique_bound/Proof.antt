@@ -35,7 +35,8 @@ returns c =
     let rows = m .before .before .before .before .before .args .rows .now in
     let o = sound (m .before) in
     accepted 64 cliqueBound cliqueSet rows (c .size .result) (m .clique-of .result) o
-    (c .size .ensures ∙ ap (size 64) (m .clique-of .ensures) ∙ clique-size _ _ (good-graph _ _ (sound-valid rows o)) 64 (o .apart .inside .few)) (m .clique-of .ensures)
+    (c .size .ensures ∙ ap (size 64) (m .clique-of .ensures) ∙ clique-size _ _ (good-graph _ _ (sound-valid rows o)) 64 (o .apart .inside .few))
+    (m .clique-of .ensures)
 
 unbounded-requires : tie.Need-unbounded-requires
 unbounded-requires c κs = search needs
