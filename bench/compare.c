@@ -1,4 +1,4 @@
-/* Reads the clash text of standard input as often as it is told to, for a program that counts instructions: bench/reading. "repeats" behind the number
+/* Reads the clash text of standard input as often as it is told to, for a program that counts instructions: bench/compare. "repeats" behind the number
    asks for the reading that allows repeats. An older library has one reading, which allows them, and an answer of fewer numbers than there is room
    for here. */
 #include <stddef.h>
