@@ -137,7 +137,7 @@ struct slotsheet_part {
 /* The version of the library that is linked, as SLOTSHEET_VERSION is that of this header. */
 const char *slotsheet_version(void);
 
-/* The name of a refusal in document 01's table, as "ONE-SIDED"; "ACCEPTED" of 0; NULL of a number that is none. */
+/* The name of a refusal, as "ONE-SIDED"; "ACCEPTED" of 0; NULL of a number that is none. */
 const char *slotsheet_name(size_t refusal);
 
 /* A refusal in words for people, as "line 7: entry 12 stands in an earlier group". `place` is what was returned beside it: its row, line, index

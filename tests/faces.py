@@ -99,7 +99,7 @@ compare("bindings/python, limits", {name: python.get(name) for name in limits}, 
 compare("bindings/python, texts", {name: python.get(f"_{name}") for name in texts}, texts)
 compare("bindings/python", {"version": python["VERSION"]}, {"version": version})
 
-# README and the second program, which is written from document 01 alone
+# README and the second program, which is written from the papers alone
 compare("README.md", {int(number): name for number, name in re.findall(r"^\| (\d+) ([A-Z -]+?) \|", text("README.md"), re.M)}, names)
 compare("second", variants(text("second/src/refusal.rs")), numbers)
 

@@ -1,4 +1,4 @@
-//! Clash texts: DIMACS colouring format, as document 01 narrows it.
+//! Clash texts: DIMACS colouring format, as documents 01 and 02 narrow it.
 
 use crate::lines::{lines, Line};
 use crate::shape::{bad, shape, Shape};

@@ -36,7 +36,7 @@ pub enum Refusal {
 }
 
 impl Refusal {
-    /// The number that document 01 gives.
+    /// Its number in the papers.
     pub fn number(self) -> u64 {
         self as u64
     }

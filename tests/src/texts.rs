@@ -1,4 +1,4 @@
-//! What document 01 says of texts as a whole, on thousands of whole and damaged ones.
+//! What the papers say of texts as a whole, on thousands of whole and damaged ones.
 
 use std::collections::BTreeMap;
 

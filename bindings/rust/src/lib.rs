@@ -29,7 +29,7 @@ mod table;
 pub use refusal::Beside;
 pub use table::{Refusal, BYTES, ENTRIES, LIST_BYTES, NODES, SHEET_BYTES, STACK_BYTES, VERSION};
 
-/// A refusal with what is "also returned" beside it: row, line, index or nodes, by document 01's table; 0 where it names nothing.
+/// A refusal with what is "also returned" beside it: row, line, index or nodes; 0 where there is nothing.
 #[derive(Clone, Copy, Debug, PartialEq, Eq)]
 pub struct Refused {
     pub why: Refusal,

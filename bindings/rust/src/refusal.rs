@@ -24,12 +24,12 @@ impl Refusal {
         TABLE.iter().map(|row| row.refusal)
     }
 
-    /// The number that document 01 gives.
+    /// Its number in the table of refusals.
     pub fn number(self) -> usize {
         self as usize
     }
 
-    /// The name that document 01 gives, as "ONE-SIDED".
+    /// Its name, as "ONE-SIDED".
     pub fn name(self) -> &'static str {
         self.row().name
     }
@@ -64,6 +64,6 @@ impl Refusal {
 
     /// The refusal of a number that the library answered; it answers no other.
     pub(crate) fn of(number: usize) -> Refusal {
-        Self::all().find(|refusal| refusal.number() == number).expect("a number of document 01's table")
+        Self::all().find(|refusal| refusal.number() == number).expect("a number of the table")
     }
 }

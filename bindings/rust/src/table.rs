@@ -17,7 +17,7 @@ pub const NODES: usize = 1_000_000;
 /// The stack that a thread needs to make any call, with room to spare.
 pub const STACK_BYTES: usize = 262_144;
 
-/// Each refusal by its name in document 01 (`Itself` for SELF); its value is its number there.
+/// Each refusal by its name (`Itself` for SELF); its value is its number.
 #[derive(Clone, Copy, Debug, PartialEq, Eq, PartialOrd, Ord, Hash)]
 pub enum Refusal {
     /// Over 64 rows, or colour bytes when writing a sheet.
