@@ -17,7 +17,7 @@ ghost use mathlib.Core.Path.{_≡_};
 ghost use Prim.Native.Nat.{_<_};
 ghost use lib.ListN.{length, take};
 ghost use Rattle.sets.specs.Lists.{members, over};
-ghost use Rattle.sets.specs.Set.{has as member};
+ghost use Rattle.sets.specs.Set.{has as member, size as ones};
 ghost use Rattle.clashes.specs.Matrix.{Sound};
 ghost use Rattle.graphs.specs.Graph.{to, pair, grouping};
 ghost use Rattle.graphs.specs.Held.{Held, view, choiceOf, Holds, Each};
@@ -154,27 +154,27 @@ fn by_pairs(rows: &[u64; 64], u: usize, near: u64, apart: u64, best: Lead) -> Le
     best
 }
 
-// The same. Where apart is small beside near, pairs cost less than counts.
-fn led(rows: &[u64; 64], u: usize, near: u64, apart: u64, best: Lead) -> Lead
-    requires { ⌜ Mutual (now rows) near apart ⌝ }
+// The same. Where apart is small beside near, pairs cost less than counts; else the counts tell who shares most, and all others are passed over.
+fn led(rows: &[u64; 64], u: usize, near: u64, degree: usize, apart: u64, best: Lead) -> Lead
+    requires { ⌜ Mutual (now rows) near apart × (degree ≡ ones 64 near) ⌝ }
     ensures { λ r. ⌜ r ≡ over (lead (shared (now (rows .entry)) near) u) best (members (member apart) 64) ⌝ }
 {
     if apart == 0 {
         return best;
     }
-    if 2 * size(apart) <= size(near) + 8 {
+    if 2 * size(apart) <= degree + 8 {
         return by_pairs(rows, u, near, apart, best);
     }
-    let m = greatest(counted(rows, near), apart);
-    if m.count < best.size {
-        return best;
+    let v = lowest(greatest(counted(rows, near), apart));
+    let common = size(meet(near, rows[v])) + 1;
+    if best.size < common {
+        return Lead {
+            size: common,
+            u: u,
+            v: v,
+        };
     }
-    let v = lowest(m.having);
-    Lead {
-        size: m.count + 1,
-        u: u,
-        v: v,
-    }
+    best
 }
 
 // Of left who has neighbours enough to lead, where more are needed than before.
@@ -204,10 +204,13 @@ pub fn choose_among(live: u64, rows: &[u64; 64]) -> Choice
         let u = lowest(left);
         left = without(left, u);
         let near = meet(rows[u], live);
-        let apart = less(left, near);
-        let before = best.size;
-        best = led(rows, u, near, apart, best);
-        left = hopeful(degrees, before, best.size, left);
+        let degree = size(near);
+        if best.size <= degree {
+            let apart = less(left, near);
+            let before = best.size;
+            best = led(rows, u, near, degree, apart, best);
+            left = hopeful(degrees, before, best.size, left);
+        }
     }
     if best.size == 0 {
         return Choice::Complete;
