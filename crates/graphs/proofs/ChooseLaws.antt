@@ -45,6 +45,13 @@ module _ (cap : ℕ) (rows : List ℕ) (near u v m c : ℕ) (l : Lead) (h : IsMe
   pub lead-kept : c + 1 ≤ l .size → l ≡ lead (sharedAt cap rows near) u l v
   lead-kept b = sym (lead-less (sharedAt cap rows near) u l v (omega (arith, plus)))
 
+-- u has fewer neighbours than would lead: whoever it is paired with shares no more, so its row is passed over
+pub row-passed : (cap : ℕ) (rows : List ℕ) (near apart u : ℕ) (best : Lead) → size cap near < best .size
+    → best ≡ over (lead (sharedAt cap rows near) u) best (members (has apart) cap)
+row-passed cap rows near apart u best few =
+    sym (lead-stays (sharedAt cap rows near) u (members (has apart) cap) best
+    (λ v i. omega (arith, few, count-le (λ w. has near w && has (getD rows v zero) w) (has near) (upto cap) (λ w t. and-l (has near w) (has (getD rows v zero) w) t))))
+
 -- ---- all pairs of u at once
 
 -- the members of near in whose rows v is are those in v's row
@@ -215,29 +222,6 @@ module _ (cap : ℕ) (rows : List ℕ) (live : ℕ) where
 
   pub scanned-none : Scanned (record { size = 0; u = 0; v = 0 }) live
   scanned-none = record { rest = record { within = λ x t. t; behind = λ x y t u b q. absurd (q u) }; top = none; leads = refl; same = refl }
-
-  -- u has fewer neighbours than would lead: its row is passed over
-  pub scanned-passed : (best : Lead) (left u next near : ℕ) → Scanned best left → IsLowest cap left u → IsWithout left u next → IsMeet (getD rows u zero) live near
-      → size cap near < best .size → Scanned best next
-  scanned-passed best left u next near s low out m few = record {
-    rest = record {
-      within = λ x t. s .rest .within x (without-kept left u next x out t .0);
-      behind = λ x y t l b q.
-          let k = without-kept left u next x out t in
-          s .rest .behind x y (k .0) l b (λ p. q (kept-without left u next y out p (λ z. low .least x (omega arith) (k .0))));
-    };
-    top = s .top;
-    leads = s .leads;
-    same = over-next (row-lead sharing open? cap) (s .top) (s .top) left u next low out
-        (sym (passed-over-first cap inWords u (s .top) (omega (arith, few, near-all, leads-reach sharing best (s .top) (s .leads))) open? cap))
-        ∙ s .same;
-  }
-    where
-      near-all : degree cap inWords u ≤ size cap near
-      near-all =
-          count-le (λ w. edge u w) (has near) (upto cap)
-          (λ w t. let p = and-r (has live u) (has live w && has (getD rows u zero) w) t in
-          subst T (sym (m w)) (and-t (has (getD rows u zero) w) (has live w) (and-r (has live w) (has (getD rows u zero) w) p) (and-l (has live w) (has (getD rows u zero) w) p)))
 
   module _ (best : Lead) (left u next near apart : ℕ) (s : Scanned best left) (low : IsLowest cap left u) (out : IsWithout left u next)
       (m : IsMeet (getD rows u zero) live near) (d : IsLess next near apart) (new : Lead) (e : new ≡ over (lead (sharedAt cap rows near) u) best (members (has apart) cap))

@@ -17,7 +17,7 @@ ghost use mathlib.Core.Path.{_≡_};
 ghost use Prim.Native.Nat.{_<_};
 ghost use lib.ListN.{length, take};
 ghost use Rattle.sets.specs.Lists.{members, over};
-ghost use Rattle.sets.specs.Set.{has as member, size as ones};
+ghost use Rattle.sets.specs.Set.{has as member};
 ghost use Rattle.clashes.specs.Matrix.{Sound};
 ghost use Rattle.graphs.specs.Graph.{to, pair, grouping};
 ghost use Rattle.graphs.specs.Held.{Held, view, choiceOf, Holds, Each};
@@ -154,22 +154,27 @@ fn by_pairs(rows: &[u64; 64], u: usize, near: u64, apart: u64, best: Lead) -> Le
     best
 }
 
-// The same. Where apart is small beside near, pairs cost less than counts; else the counts tell who shares most, and all others are passed over.
-fn led(rows: &[u64; 64], u: usize, near: u64, degree: usize, apart: u64, best: Lead) -> Lead
-    requires { ⌜ Mutual (now rows) near apart × (degree ≡ ones 64 near) ⌝ }
+// The same. A row with fewer neighbours than would lead is passed over. Where apart is small beside near, pairs cost less than counts; else the counts
+// tell who shares most, and all others are passed over.
+fn led(rows: &[u64; 64], u: usize, near: u64, apart: u64, best: Lead) -> Lead
+    requires { ⌜ Mutual (now rows) near apart ⌝ }
     ensures { λ r. ⌜ r ≡ over (lead (shared (now (rows .entry)) near) u) best (members (member apart) 64) ⌝ }
 {
     if apart == 0 {
+        return best;
+    }
+    let degree = size(near);
+    if degree < best.size {
         return best;
     }
     if 2 * size(apart) <= degree + 8 {
         return by_pairs(rows, u, near, apart, best);
     }
     let v = lowest(greatest(counted(rows, near), apart));
-    let common = size(meet(near, rows[v])) + 1;
-    if best.size < common {
+    let most = size(meet(near, rows[v])) + 1;
+    if best.size < most {
         return Lead {
-            size: common,
+            size: most,
             u: u,
             v: v,
         };
@@ -202,15 +207,12 @@ pub fn choose_among(live: u64, rows: &[u64; 64]) -> Choice
     let mut left = live;
     while left != 0 {
         let u = lowest(left);
-        left = without(left, u);
+        left = rest(left);
         let near = meet(rows[u], live);
-        let degree = size(near);
-        if best.size <= degree {
-            let apart = less(left, near);
-            let before = best.size;
-            best = led(rows, u, near, degree, apart, best);
-            left = hopeful(degrees, before, best.size, left);
-        }
+        let apart = less(left, near);
+        let before = best.size;
+        best = led(rows, u, near, apart, best);
+        left = hopeful(degrees, before, best.size, left);
     }
     if best.size == 0 {
         return Choice::Complete;
