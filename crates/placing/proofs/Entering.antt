@@ -112,14 +112,22 @@ module _ (cap : ℕ) (rows : List ℕ) (here m : ℕ) (sets c : List ℕ) (s : S
               ap (λ (k : ℕ). search clash k (take here c) (stateOf n s)) (let z : n - here ≡ 0 = omega arith in z)
               ∙ search-full clash (take here c) (stateOf n s) small
 
-      -- otherwise all groups' turns are what is due
-      pub due-on : here < length rows → due rows here c s ≡ before clash (n - suc here) (take here c) (stateOf n t) (suc m)
+      -- otherwise the turns of all groups are what is due
+      due-on : here < length rows → due rows here c s ≡ before clash (n - suc here) (take here c) (stateOf n t) (suc m)
       unfolding due
       due-on l =
           ap (λ (k : ℕ). search clash k (take here c) (stateOf n s)) (let z : n - here ≡ suc (n - suc here) = omega arith in z)
           ∙ search-on clash (n - suc here) (take here c) (stateOf n s) small
           ∙ choices-are clash (n - suc here) (take here c) (enter (stateOf n s))
           ∙ ap₂ (λ (d : Described) (k : ℕ). before clash (n - suc here) (take here c) d (suc k)) (sym (counts .is)) (ready .holds .many)
+
+      pub comes-on : here < length rows → (r : State) → Comes n t r (before clash (n - suc here) (take here c) (stateOf n t) (suc m)) → Comes n s r (due rows here c s)
+      comes-on l r x = record {
+        done = λ o. x .done o ∙ sym (due-on l);
+        spent = λ o. omega (arith, x .spent o, counts .budget, ap (λ (d : Described). d .nodes) (due-on l));
+        fair = x .fair;
+        budget = x .budget ∙ counts .budget;
+      }
 
       pub on-ready : ReadyAt cap rows here m sets c t
       on-ready = record { few = ready .few; below = ready .below; holds = ready .holds; fair = counts .fair; going = counts .going }

@@ -1,6 +1,7 @@
 -- The turns of the code's loop over the groups, each against the described search: a group is passed over, or the entry is put into it and the node entered,
 -- after which the sets are restored. Assumes nothing.
 use mathlib.Core.Path.{_≡_, refl, sym, ap, ap₂, _∙_}
+use mathlib.Core.Logic.{_≢_}
 use mathlib.Core.Bool.{Bool, true, false}
 use mathlib.Core.List.{List}
 use Prim.Native.Nat.{ℕ, zero, suc, _+_, _-_, _≤_, _<_}
@@ -9,14 +10,14 @@ use native.Mathlib.Omega.{arith}
 use lib.Dec.{T}
 use lib.ListN.{length, take, set, getD, length-set}
 use lib.Seq.{take-set-le, set-set, set-getD, take-take}
-use Rattle.sets.specs.Set.{IsWith}
+use Rattle.sets.specs.Set.{IsWith, IsMeet}
 use Rattle.clashes.specs.Matrix.{matrix}
 use Rattle.placing.specs.Search.{State as Described, admits, put, search}
 use Rattle.placing.specs.Going.{stateOf, Fair, HoldsAt, ReadyAt, due, Comes, Kept, moreOf}
 use Rattle.placing.specs.declared.State.{State}
 use Rattle.placing.proofs.Steps.{turn, before, before-in, before-out}
 use Rattle.placing.proofs.Counts.{before-grows}
-use Rattle.placing.proofs.Holding.{holds-kept, groups-few, put-places, holds-put}
+use Rattle.placing.proofs.Holding.{holds-kept, groups-few, met-in-none, met-in-some, put-places, holds-put}
 use Rattle.placing.proofs.Entering.{comes-done, comes-spent}
 
 -- what the turns before group j come to, from t₀ at the node that is held
@@ -72,26 +73,30 @@ module _ (cap : ℕ) (rows : List ℕ) (here m : ℕ) (sets₀ c₀ : List ℕ) 
   last-turn b =
       comes-done n t₀ t (came rows here c₀ t₀ (suc m)) (u .going) (u .is ∙ ap (came rows here c₀ t₀) (let z : j ≡ suc m = omega (arith, u .most) in z)) (u .fair) (u .budget)
 
-  module _ (low : j ≤ m) where
-    pub set-inside : j < cap
-    set-inside = omega (arith, groups-inside)
+  pub set-inside : j ≤ m → j < cap
+  set-inside low = omega (arith, groups-inside)
 
+  module _ (low : j ≤ m) (x : ℕ) (meets : IsMeet (getD rows here zero) (getD sets j zero) x) where
     -- group j does not admit the entry: the next group's turn begins
-    pub passed-over : admits clash (take here c) j ≡ false → Turn cap rows here m sets₀ c₀ t₀ sets c t (j + 1)
-    passed-over e = record {
+    pub passed-over : x ≢ 0 → Turn cap rows here m sets₀ c₀ t₀ sets c t (j + 1)
+    passed-over q = record {
       first = u .first;
       more = u .more;
       most = omega arith;
       kept = u .kept;
-      is = u .is ∙ sym (before-out clash left (take here c₀) (stateOf n t₀) j (ap (λ (l : List ℕ). admits clash l j) (sym (u .kept .places-same)) ∙ e))
-          ∙ ap (came rows here c₀ t₀) (sym (add-one j));
+      is = u .is ∙ sym (before-out clash left (take here c₀) (stateOf n t₀) j closed) ∙ ap (came rows here c₀ t₀) (sym (add-one j));
       fair = u .fair;
       budget = u .budget;
       going = u .going;
     }
+      where
+        closed : admits clash (take here c₀) j ≡ false
+        closed =
+            ap (λ (l : List ℕ). admits clash l j) (sym (u .kept .places-same))
+            ∙ met-in-some cap here m sets c holds-now entry-inside j (set-inside low) rows x meets q
 
     -- it admits the entry, which is put into it
-    module _ (ok : T (admits clash (take here c) j)) (g′ : ℕ) (joins : IsWith (getD sets j zero) here g′) where
+    module _ (none : x ≡ 0) (g′ : ℕ) (joins : IsWith (getD sets j zero) here g′) where
       abbrev g : ℕ
       g = getD sets j zero
 
@@ -105,19 +110,22 @@ module _ (cap : ℕ) (rows : List ℕ) (here m : ℕ) (sets₀ c₀ : List ℕ) 
       put-ready = record {
         few = u .first .few;
         below = omega (arith, u .more);
-        holds = holds-put cap here m sets c holds-now entry-inside j set-inside g′ joins low;
+        holds = holds-put cap here m sets c holds-now entry-inside j (set-inside low) g′ joins low;
         fair = u .fair;
         going = u .going;
       }
+
+      admitted : T (admits clash (take here c) j)
+      admitted = met-in-none cap here m sets c holds-now entry-inside j (set-inside low) rows x meets none
 
       -- what is due at that node is what the turns up to this one come to
       put-due : due rows (here + 1) c′ t ≡ came rows here c₀ t₀ (suc j)
       unfolding due
       put-due =
           ap₂ (λ (k : ℕ) (l : List ℕ). search clash k l (stateOf n t)) (let z : n - (here + 1) ≡ left = omega arith in z)
-          (put-places cap here m sets c holds-now entry-inside j set-inside g′ joins ∙ ap (λ (l : List ℕ). put l j) (u .kept .places-same))
+          (put-places cap here m sets c holds-now entry-inside j (set-inside low) g′ joins ∙ ap (λ (l : List ℕ). put l j) (u .kept .places-same))
           ∙ ap (search clash left (put (take here c₀) j)) (u .is)
-          ∙ sym (before-in clash left (take here c₀) (stateOf n t₀) j (rw (← u .kept .places-same) ok))
+          ∙ sym (before-in clash left (take here c₀) (stateOf n t₀) j (rw (← u .kept .places-same) admitted))
 
       module _ (r : State) (sets″ c″ : List ℕ) (comes : Comes n t r (due rows (here + 1) c′ t)) (kept : Kept (here + 1) sets′ c′ sets″ c″) where
         -- set j is as it was before the turn
