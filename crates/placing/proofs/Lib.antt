@@ -9,3 +9,6 @@ pub mod Counts
 pub mod Holding
 pub mod Entering
 pub mod Turns
+pub mod PromiseLaws
+pub mod Meets
+pub mod Demands
