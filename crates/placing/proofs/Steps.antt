@@ -38,7 +38,7 @@ module _ (clash : ℕ → ℕ → Bool) where
   module _ (Q : ℕ → List ℕ → State → State → Type 0) (back : (left : ℕ) (c : List ℕ) (s : State) → size s ≤ groups 0 c → Q left c s (enter s))
       (full : (c : List ℕ) (s : State) → groups 0 c < size s → Q zero c s (become c (enter s)))
       (on : (left : ℕ) (c : List ℕ) (s : State) → groups 0 c < size s → ((t : State) (j : ℕ) → Q left (put c j) t (turn left c t j))
-          → Q (suc left) c s (over (turn left c) (enter s) (choices clash c))) where
+      → Q (suc left) c s (over (turn left c) (enter s) (choices clash c))) where
     pub search-by : (left : ℕ) (c : List ℕ) (s : State) → Q left c s (search clash left c s)
     search-by zero c s = go (decLe (size s) (groups 0 c))
       where
