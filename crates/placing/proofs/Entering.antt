@@ -9,12 +9,14 @@ use native.Mathlib.Omega.{arith}
 use native.Mathlib.Decide.{decLt}
 use borrow.Author.Tests.{lt-ltb, le-ltb}
 use lib.ListN.{length, take}
+use Rattle.sets.specs.Lists.{over}
 use Rattle.clashes.specs.Matrix.{matrix}
 use Rattle.clashes.specs.Divisions.{groups}
 use Rattle.placing.specs.Search.{State as Described, enter, size, become, search}
 use Rattle.placing.specs.Going.{stateOf, Fair, ReadyAt, due, Comes, counted}
 use Rattle.placing.specs.declared.State.{State}
-use Rattle.placing.proofs.Steps.{before, search-back, search-full, search-on, choices-are}
+use Rattle.placing.proofs.PlacingLaws.{choices-are}
+use Rattle.placing.proofs.Steps.{turn, before, search-back, search-full, search-on}
 use Rattle.placing.proofs.Counts.{search-enters}
 
 -- ---- a node is counted, or the budget has no more
@@ -118,7 +120,7 @@ module _ (cap : ℕ) (rows : List ℕ) (here m : ℕ) (sets c : List ℕ) (s : S
       due-on l =
           ap (λ (k : ℕ). search clash k (take here c) (stateOf n s)) (let z : n - here ≡ suc (n - suc here) = omega arith in z)
           ∙ search-on clash (n - suc here) (take here c) (stateOf n s) small
-          ∙ choices-are clash (n - suc here) (take here c) (enter (stateOf n s))
+          ∙ ap (over (turn clash (n - suc here) (take here c)) (enter (stateOf n s))) (choices-are clash (take here c))
           ∙ ap₂ (λ (d : Described) (k : ℕ). before clash (n - suc here) (take here c) d (suc k)) (sym (counts .is)) (ready .holds .many)
 
       pub comes-on : here < length rows → (r : State) → Comes n t r (before clash (n - suc here) (take here c) (stateOf n t) (suc m)) → Comes n s r (due rows here c s)

@@ -1,16 +1,15 @@
 -- Laws of placings: one entry more, and which groups it can be put into. Assumes nothing.
 use mathlib.Core.Path.{_≡_, sym, ap, _∙_, subst}
-use mathlib.Core.Logic.{_⊎_, inl, inr, _≢_}
+use mathlib.Core.Logic.{_≢_}
 use mathlib.Core.Bool.{Bool, not, _&&_}
 use mathlib.Core.List.{List, [], _∷_, _++_}
 use Prim.Native.Nat.{ℕ, suc, _+_, _≤_, _<_}
-use native.Mathlib.Decide.{ℕ-discrete, decLt}
+use native.Mathlib.Decide.{decLt}
 use native.Mathlib.Omega.{arith}
 use lib.Dec.{T, eqb, eqb→eq, not-T, T-not}
 use lib.ListN.{length, length-append}
-use Rattle.sets.specs.Lists.{In, members}
-use Rattle.sets.proofs.TestLaws.{and-l, and-r, and-t, eqb-of, all-get, all-make}
-use Rattle.sets.proofs.ListLaws.{In-append, In-append-l, In-append-r}
+use Rattle.sets.specs.Lists.{In, keep, members}
+use Rattle.sets.proofs.TestLaws.{and-l, and-r, and-t, T→true, eqb-of, all-get, all-make}
 use Rattle.sets.proofs.MemberLaws.{In-members, members-In}
 use Rattle.clashes.specs.Matrix.{Valid}
 use Rattle.clashes.specs.Colouring.{Proper}
@@ -37,8 +36,13 @@ module _ (clash : ℕ → ℕ → Bool) (c : List ℕ) (j : ℕ) where
       (and-t (clash (length c) y) (eqb (at c y) j) u (eqb-of (at c y) j e))
 
 -- a new group admits every entry
-pub new-admits : (clash : ℕ → ℕ → Bool) (c : List ℕ) → T (admits clash c (groups 0 c))
+new-admits : (clash : ℕ → ℕ → Bool) (c : List ℕ) → T (admits clash c (groups 0 c))
 new-admits clash c = admits-make clash c (groups 0 c) (λ y b u e. let z : ⊥ = omega (arith, canon-below 0 c y b) in z)
+
+-- so the choices are the numbers up to the new group's that admit the next entry, in their order
+pub choices-are : (clash : ℕ → ℕ → Bool) (c : List ℕ) → choices clash c ≡ members (admits clash c) (suc (groups 0 c))
+choices-are clash c =
+    ap (λ (b : Bool). members (admits clash c) (groups 0 c) ++ keep b (groups 0 c)) (sym (T→true (admits clash c (groups 0 c)) (new-admits clash c)))
 
 -- ---- a node of the search: the entries below length c are placed without clash, and `left` are still to be placed
 
@@ -50,12 +54,7 @@ module _ (n : ℕ) (clash : ℕ → ℕ → Bool) (valid : Valid n clash) where
 
   -- what the next entry is put into: a group or the next number, and it admits the entry
   pub chosen : (c : List ℕ) (j : ℕ) → In j (choices clash c) → (j ≤ groups 0 c) × T (admits clash c j)
-  chosen c j i = go (In-append j (members (admits clash c) (groups 0 c)) (groups 0 c ∷ []) i)
-    where
-      go : In j (members (admits clash c) (groups 0 c)) ⊎ In j (groups 0 c ∷ []) → (j ≤ groups 0 c) × T (admits clash c j)
-      go (inl h) = let m = In-members (admits clash c) (groups 0 c) j h in (omega arith, m .1)
-      go (inr (inl e)) = (omega arith, subst (λ (z : ℕ). T (admits clash c z)) (sym e) (new-admits clash c))
-      go (inr (inr b)) = absurd b
+  chosen c j i = let m = In-members (admits clash c) (suc (groups 0 c)) j (subst (In j) (choices-are clash c) i) in (omega arith, m .1)
 
   -- each placing of the next entry is a node
   pub put-node : (left : ℕ) (c : List ℕ) (j : ℕ) → Node (suc left) c → In j (choices clash c) → Node left (put c j)
@@ -91,17 +90,10 @@ module _ (n : ℕ) (clash : ℕ → ℕ → Bool) (valid : Valid n clash) where
 
   -- a clash-free division goes on from c by one of the choices
   pub choice : (c : List ℕ) (j : ℕ) (e : List ℕ) → length (c ++ j ∷ e) ≡ n → Canon 0 (c ++ j ∷ e) → Proper n clash (at (c ++ j ∷ e)) → In j (choices clash c)
-  choice c j e l g f = go (ℕ-discrete j (groups 0 c))
+  choice c j e l g f = subst (In j) (sym (choices-are clash c)) (members-In (admits clash c) (suc (groups 0 c)) j (omega (arith, canon-behind 0 c (j ∷ e) g .0)) ok)
     where
-      low : j ≤ groups 0 c
-      low = canon-behind 0 c (j ∷ e) g .0
-
       ok : T (admits clash c j)
       ok =
           admits-make clash c j
           (λ y b u q. f (length c) y (omega (arith, length-append c (j ∷ e))) (omega (arith, length-append c (j ∷ e))) u
           (at-next c e j ∙ sym q ∙ sym (at-front c (j ∷ e) y b)))
-
-      go : Dec (j ≡ groups 0 c) → In j (choices clash c)
-      go (yes q) = In-append-r j (members (admits clash c) (groups 0 c)) (groups 0 c ∷ []) (inl q)
-      go (no q) = In-append-l j (members (admits clash c) (groups 0 c)) (groups 0 c ∷ []) (members-In (admits clash c) (groups 0 c) j (omega (arith, low)) ok)

@@ -13,7 +13,6 @@ use Rattle.sets.proofs.TestLaws.{T→true}
 use Rattle.clashes.specs.Divisions.{groups}
 use Rattle.placing.specs.Search.{State, enter, size, admits, choices, put, become, unless, search}
 use Rattle.placing.proofs.OverLaws.{over-append}
-use Rattle.placing.proofs.PlacingLaws.{new-admits}
 
 module _ (clash : ℕ → ℕ → Bool) where
   -- a turn: the next entry of c into group j
@@ -56,12 +55,6 @@ module _ (clash : ℕ → ℕ → Bool) where
   module _ (left : ℕ) (c : List ℕ) (s : State) where
     abbrev pub before : ℕ → State
     before j = over (turn left c) s (members (admits clash c) j)
-
-    -- the choices are the groups that admit the next entry, the new one among them
-    pub choices-are : over (turn left c) s (choices clash c) ≡ before (suc (groups 0 c))
-    choices-are =
-        ap (λ (b : Bool). over (turn left c) s (members (admits clash c) (groups 0 c) ++ keep b (groups 0 c)))
-        (sym (T→true (admits clash c (groups 0 c)) (new-admits clash c)))
 
     pub before-in : (j : ℕ) → T (admits clash c j) → before (suc j) ≡ turn left c (before j) j
     before-in j t =
