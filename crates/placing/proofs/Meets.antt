@@ -1,4 +1,4 @@
--- The search may start from the empty placing; a search of the code that came to its end, and a refusal of 1 to 5, meet the promise. Assumes nothing.
+-- The search may start from the empty placing, and a search of the code that came to its end meets the promise. Assumes nothing.
 use mathlib.Core.Path.{_≡_, refl, sym, ap, ap₂, _∙_, subst, subst₂}
 use mathlib.Core.Bool.{Bool, true, false, _&&_}
 use mathlib.Core.List.{List, [], _∷_, _++_}
@@ -19,11 +19,11 @@ use Rattle.clashes.specs.Divisions.{groups, Division, clashFree}
 use Rattle.clashes.proofs.MatrixLaws.{sound-valid}
 use Rattle.placing.specs.Search.{State as Described, size, search}
 use Rattle.placing.specs.Going.{stateOf, Starts, ReadyAt, due, Comes}
-use Rattle.placing.specs.Room.{OpenUpTo, RefusedUpTo}
-use Rattle.placing.specs.Promise.{numbers, searched, PromisedUpTo, Told}
+use Rattle.placing.specs.Room.{OpenUpTo}
+use Rattle.placing.specs.Promise.{searched, PromisedUpTo, Told}
 use Rattle.placing.specs.declared.State.{State}
 use Rattle.placing.specs.declared.Answer.{Answer}
-use Rattle.placing.specs.declared.Answer.the-variants.{Accepted, Many, Stray, Itself, OneSided, Short, Budget}
+use Rattle.placing.specs.declared.Answer.the-variants.{Accepted, Budget}
 use Rattle.placing.proofs.Best.{placing-division, placing-free, placing-chromatic}
 
 -- a list of zeros alone
@@ -104,14 +104,3 @@ module _ (most : ℕ) (rows before : List ℕ) (budget : ℕ) (opened : OpenUpTo
         go : (o : Bool) → s .out ≡ o → PromisedUpTo most rows before budget a after
         go true e = let q = t .spent e in subst₂ (PromisedUpTo most rows before budget) (sym (q .0)) (sym (q .1)) (spent e)
         go false e = let q = t .done e in subst₂ (PromisedUpTo most rows before budget) (sym (q .0)) (sym (q .1)) (accepts e)
-
--- a refusal of 1 to 5 meets it too
-pub promised-refused : (most : ℕ) (rows before : List ℕ) (budget : ℕ) (a : Answer) → RefusedUpTo most rows (length before) (numbers a .number) (numbers a .row)
-    → PromisedUpTo most rows before budget a before
-promised-refused most rows before budget Many r = (r, refl)
-promised-refused most rows before budget (Stray i) r = (r, refl)
-promised-refused most rows before budget (Itself i) r = (r, refl)
-promised-refused most rows before budget (OneSided i) r = (r, refl)
-promised-refused most rows before budget Short r = (r, refl)
-promised-refused most rows before budget (Accepted k m) r = absurd r
-promised-refused most rows before budget (Budget m) r = absurd r

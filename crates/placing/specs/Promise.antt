@@ -8,6 +8,7 @@
 --   Met v after        : what the numbers v say is so, and `after` are the bytes
 --   Promised a after   : the same of an answer's numbers
 --   answer, lent       : the answer and the bytes, computed
+--   Told n s           : what the code's last step promises: the answer of a search that came to s, and the bytes
 --
 -- Each is stated for lists of up to `most` entries (`PromisedUpTo most`, ..) and is then named for today's 64. Assumes nothing.
 use mathlib.Core.Path.{_≡_}
@@ -24,11 +25,9 @@ use Rattle.clashes.specs.Divisions.{groups, Division, clashFree}
 use Rattle.clashes.specs.declared.Verdict.{Verdict}
 use Rattle.clashes.specs.declared.Verdict.the-variants.{Valid as valid, Many as many, Stray as stray, Itself as itself, OneSided as oneSided}
 use Rattle.placing.specs.Search.{State as Described, size, placingSearch}
-use Rattle.placing.specs.Room.{OpenUpTo, RefusedUpTo, Open, Refused}
+use Rattle.placing.specs.Room.{OpenUpTo, RefusedUpTo}
 use Rattle.placing.specs.declared.Answer.{Answer}
 use Rattle.placing.specs.declared.Answer.the-variants.{Accepted, Many, Stray, Itself, OneSided, Short, Budget}
-use Rattle.placing.specs.declared.Gate.{Gate}
-use Rattle.placing.specs.declared.Gate.the-variants.{Open as opens, Shut}
 use Rattle.placing.specs.declared.State.{State}
 
 pub record Numbers : Type 0 where
@@ -112,14 +111,6 @@ answerUpTo most rows before budget =
 abbrev pub Promised : List ℕ → List ℕ → ℕ → Answer → List ℕ → Type 0
 Promised rows before budget a after = PromisedUpTo 64 rows before budget a after
 
--- ---- what the inner functions promise
-
--- the search may start, or is refused by 1 to 5
-abbrev pub Gated : List ℕ → ℕ → Gate → Type 0
-Gated rows room opens = Open rows room
-Gated rows room (Shut a) = Refused rows room (numbers a .number) (numbers a .row)
-
--- the answer of a search that came to s, and the bytes
 pub record Told (n : ℕ) (s : State) (before : List ℕ) (a : Answer) (after : List ℕ) : Type 0 where
   pub spent : s .out ≡ true → (a ≡ Budget (s .budget)) × (after ≡ before)
   pub done : s .out ≡ false → (a ≡ Accepted (s .k) (s .nodes)) × (after ≡ take n (s .best) ++ drop n before)

@@ -8,7 +8,7 @@ ghost use mathlib.Core.Path.{_≡_};
 ghost use Prim.Native.Nat.{_≤_, _<_};
 ghost use lib.ListN.{length};
 ghost use Rattle.placing.specs.Going.{Starts, Ready, Comes, Kept, counted as countedOf, due, moreOf};
-ghost use Rattle.placing.specs.Promise.{Promised, Gated, Told};
+ghost use Rattle.placing.specs.Promise.{Promised, Told};
 
 // The answer: accepted, with the fewest groups and the nodes entered; or refused, with the row at fault or the nodes entered.
 pub enum Answer {
@@ -29,12 +29,6 @@ struct State {
     pub nodes: u64,
     pub budget: u64,
     pub out: bool,
-}
-
-// May the search start? If not, why.
-enum Gate {
-    Open,
-    Shut(Answer),
 }
 
 // Every entry alone: no node is entered yet.
@@ -126,25 +120,6 @@ fn enter(
     t
 }
 
-// Refusals 1 to 5.
-fn admitted(rows: &[u64], room: usize) -> Gate
-    ensures { λ r. ⌜ Gated (now (rows .entry)) room r ⌝ }
-{
-    let v = validity(rows);
-    match v {
-        Verdict::Many => Gate::Shut(Answer::Many),
-        Verdict::Stray(i) => Gate::Shut(Answer::Stray(i)),
-        Verdict::Itself(i) => Gate::Shut(Answer::Itself(i)),
-        Verdict::OneSided(i) => Gate::Shut(Answer::OneSided(i)),
-        Verdict::Valid => {
-            if rows.len() <= room {
-                return Gate::Open;
-            }
-            Gate::Shut(Answer::Short)
-        }
-    }
-}
-
 // The answer of a search that came to s. Where it is accepted the colours are written.
 fn told(n: usize, s: State, colours: &mut [u8]) -> Answer
     requires { ⌜ (n ≤ 64) × (n ≤ length (now colours)) ⌝ }
@@ -166,11 +141,17 @@ fn told(n: usize, s: State, colours: &mut [u8]) -> Answer
 pub fn fewest_by_placing(rows: &[u64], colours: &mut [u8], budget: u64) -> Answer
     ensures { λ r. ⌜ Promised (now (rows .entry)) (now (colours .entry)) budget r (now (colours .exit)) ⌝ }
 {
-    let g = admitted(rows, colours.len());
-    match g {
-        Gate::Shut(a) => a,
-        Gate::Open => {
+    let v = validity(rows);
+    match v {
+        Verdict::Many => Answer::Many,
+        Verdict::Stray(i) => Answer::Stray(i),
+        Verdict::Itself(i) => Answer::Itself(i),
+        Verdict::OneSided(i) => Answer::OneSided(i),
+        Verdict::Valid => {
             let n = rows.len();
+            if colours.len() < n {
+                return Answer::Short;
+            }
             let mut groups: [u64; 64] = [0; 64];
             let mut placed: [u8; 64] = [0; 64];
             let s = enter(0, 0, rows, &mut groups, &mut placed, start(n, budget));

@@ -2,27 +2,37 @@
 use mathlib.Core.Path.{refl, subst}
 use borrow.Author.Needs.{needs}
 use lib.ListN.{length}
-use Rattle.placing.specs.Room.{Open}
-use Rattle.placing.specs.Promise.{Gated}
-use Rattle.placing.proofs.Meets.{start-ready, promised-told, promised-refused}
+use Rattle.clashes.specs.Matrix.{Judged}
+use Rattle.placing.specs.Room.{OpenUpTo}
+use Rattle.placing.proofs.Meets.{start-ready, promised-told}
 use Rattle.placing.proofs.fewest_by_placing.Statement.{statement}
 use Rattle.placing.proofs.fewest_by_placing.Tie as tie
 
--- there is no cause for refusals 1 to 5
-opened : (c : tie.After-enum-told) → let a = c .before .before .before .before .before .args in Open (a .rows .now) (length (a .colours .now))
-opened c =
-    let d = c .before .before in
-    let a = d .before .before .before .args in
-    subst (Gated (a .rows .now) (length (a .colours .now))) (c .enum-told .given .1) (d .admitted .ensures)
-
-admitted-requires : tie.Need-admitted-requires
-admitted-requires c κs = search needs
-
-enum-known-g : tie.Need-enum-known-g
-enum-known-g c = search needs
+validity-requires : tie.Need-validity-requires
+validity-requires c κs = search needs
 
 enum-told : tie.Need-enum-told
 enum-told c = search needs
+
+enum-known-v : tie.Need-enum-known-v
+enum-known-v c = search needs
+
+enum-known-v-2 : tie.Need-enum-known-v-2
+enum-known-v-2 c = search needs
+
+enum-known-v-3 : tie.Need-enum-known-v-3
+enum-known-v-3 c = search needs
+
+enum-told-2 : tie.Need-enum-told-2
+enum-told-2 c = search needs
+
+-- ---- the search starts
+
+-- there is no cause for refusals 1 to 5
+opened : (c : tie.Else1) → let a = c .before .before .before .before .before .before .args in OpenUpTo 64 (a .rows .now) (length (a .colours .now))
+opened c =
+    let v = c .before .before .before in
+    record { sound = subst (Judged (v .before .before .before .args .rows .now)) (c .before .enum-told2 .given .1) (v .validity .ensures); bytes = c .if1 .left }
 
 start-requires : tie.Need-start-requires
 start-requires c κs = opened (c .before .before) .sound .apart .inside .few
@@ -30,41 +40,62 @@ start-requires c κs = opened (c .before .before) .sound .apart .inside .few
 enter-requires : tie.Need-enter-requires
 enter-requires c κs =
     let o = c .before .before .before in
-    let a = o .before .before .before .before .before .args in
+    let a = o .before .before .before .before .before .before .args in
     start-ready 64 (a .rows .now) (a .colours .now) (a .budget) (opened o) _ _ (c .start .result) refl refl tt (c .start .ensures)
 
 told-requires : tie.Need-told-requires
 told-requires c κs = let o = opened (c .before .before .before .before .before) in (o .sound .apart .inside .few, o .bytes)
 
-returns : tie.Need-returns
-returns c =
-    let d = c .before .before .before in
-    let a = d .before .before .before .args in
-    promised-refused 64 (a .rows .now) (a .colours .now) (a .budget) (c .before .g .given .0 .0)
-    (subst (Gated (a .rows .now) (length (a .colours .now))) (c .before .g .given .1) (d .admitted .ensures))
-
 same-length : tie.Need-same-length
 same-length c = search needs
 
-returns-2 : tie.Need-returns-2
-returns-2 c =
+returns-6 : tie.Need-returns-6
+returns-6 c =
     let t = c .before .before in
     let e = t .before .before in
     let o = e .before .before .before .before in
-    let a = o .before .before .before .before .before .args in
+    let a = o .before .before .before .before .before .before .args in
     promised-told 64 (a .rows .now) (a .colours .now) (a .budget) (opened o) _ (e .before .start .result) (e .enter .result) (e .before .start .ensures) (e .enter .ensures .0)
     _ _ (t .told .ensures)
+
+-- ---- or is refused: 5, then 1 to 4
+
+returns : tie.Need-returns
+returns c =
+    let v = c .before .before .before in (
+      record { sound = subst (Judged (v .before .before .before .args .rows .now)) (c .before .enum-told2 .given .1) (v .validity .ensures); bytes = c .if1 .taken },
+      refl,
+    )
+
+returns-2 : tie.Need-returns-2
+returns-2 c = let v = c .before .before in (subst (Judged (v .before .before .before .args .rows .now)) (c .enum-told .given .1) (v .validity .ensures), refl)
+
+returns-3 : tie.Need-returns-3
+returns-3 c = let v = c .before .before .before in (subst (Judged (v .before .before .before .args .rows .now)) (c .before .v .given .1) (v .validity .ensures), refl)
+
+returns-4 : tie.Need-returns-4
+returns-4 c = let v = c .before .before .before in (subst (Judged (v .before .before .before .args .rows .now)) (c .before .v2 .given .1) (v .validity .ensures), refl)
+
+returns-5 : tie.Need-returns-5
+returns-5 c = let v = c .before .before .before in (subst (Judged (v .before .before .before .args .rows .now)) (c .before .v3 .given .1) (v .validity .ensures), refl)
 
 pub fewest-by-placing-spec : {M : Type 1} → statement M
 fewest-by-placing-spec =
     tie.close
     (tie.spec
-    admitted-requires
-    enum-known-g
+    validity-requires
     enum-told
+    enum-known-v
+    enum-known-v-2
+    enum-known-v-3
+    enum-told-2
+    returns
     start-requires
     enter-requires
     told-requires
-    returns
+    returns-2
+    returns-3
+    returns-4
+    returns-5
     same-length
-    returns-2)
+    returns-6)
