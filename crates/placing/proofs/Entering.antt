@@ -32,7 +32,7 @@ pub record Uncounted (n : ℕ) (s t : State) : Type 0 where
   pub fair : Fair n t
   pub budget : t .budget ≡ s .budget
 
-module _ (n : ℕ) (s t : State) (fair : Fair n s) (going : s .out ≡ false) (e : t ≡ counted s) where
+module _ {n : ℕ} {s t : State} (fair : Fair n s) (going : s .out ≡ false) (e : t ≡ counted s) where
   one-more : s .nodes < s .budget → t ≡ record { best = s .best; k = s .k; nodes = s .nodes + 1; budget = s .budget; out = s .out }
   one-more h = e ∙ rw (lt-ltb (s .nodes) (s .budget) h)
 
@@ -72,20 +72,20 @@ comes-done n s r w o is fair b = record { done = λ x. is; spent = λ x. absurd 
 pub comes-spent : (n : ℕ) (s r : State) (w : Described) → r .out ≡ true → s .budget < w .nodes → Fair n r → r .budget ≡ s .budget → Comes n s r w
 comes-spent n s r w o more fair b = record { done = λ x. absurd (true≢false (sym o ∙ x)); spent = λ x. more; fair = fair; budget = b }
 
-module _ (cap : ℕ) (rows : List ℕ) (here m : ℕ) (sets c : List ℕ) (s : State) (ready : ReadyAt cap rows here m sets c s) (t : State) where
+module _ {cap : ℕ} {rows : List ℕ} {here m : ℕ} {sets c : List ℕ} {s : State} (ready : ReadyAt cap rows here m sets c s) where
   abbrev n : ℕ
   n = length rows
 
   abbrev clash : ℕ → ℕ → Bool
   clash = matrix rows
 
-  pub comes-out : Uncounted n s t → t .out ≡ true → Comes n s t (due rows here c s)
+  pub comes-out : {t : State} → Uncounted n s t → t .out ≡ true → Comes n s t (due rows here c s)
   unfolding due
-  comes-out u o =
+  comes-out {t} u o =
       comes-spent n s t (search clash (n - here) (take here c) (stateOf n s)) o
       (omega (arith, u .none-left, search-enters clash (n - here) (take here c) (stateOf n s))) (u .fair) (u .budget)
 
-  module _ (counts : Counted n s t) where
+  module _ {t : State} (counts : Counted n s t) where
     -- the best size is t's
     best-size : t .k ≡ size (stateOf n s)
     best-size = counts .fair .size ∙ ap size (counts .is)
@@ -123,8 +123,8 @@ module _ (cap : ℕ) (rows : List ℕ) (here m : ℕ) (sets c : List ℕ) (s : S
           ∙ ap (over (turn clash (n - suc here) (take here c)) (enter (stateOf n s))) (choices-are clash (take here c))
           ∙ ap₂ (λ (d : Described) (k : ℕ). before clash (n - suc here) (take here c) d (suc k)) (sym (counts .is)) (ready .holds .many)
 
-      pub comes-on : here < length rows → (r : State) → Comes n t r (before clash (n - suc here) (take here c) (stateOf n t) (suc m)) → Comes n s r (due rows here c s)
-      comes-on l r x = record {
+      pub comes-on : here < length rows → {r : State} → Comes n t r (before clash (n - suc here) (take here c) (stateOf n t) (suc m)) → Comes n s r (due rows here c s)
+      comes-on l x = record {
         done = λ o. x .done o ∙ sym (due-on l);
         spent = λ o. omega (arith, x .spent o, counts .budget, ap (λ (d : Described). d .nodes) (due-on l));
         fair = x .fair;

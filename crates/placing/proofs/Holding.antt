@@ -2,7 +2,7 @@
 use mathlib.Core.Path.{_≡_, sym, ap, ap₂, _∙_, subst}
 use mathlib.Core.Logic.{_≢_}
 use mathlib.Core.Bool.{Bool, true, false, _&&_, _||_}
-use mathlib.Core.List.{List, [], _∷_, _++_}
+use mathlib.Core.List.{List, [], _∷_}
 use Prim.Native.Nat.{ℕ, zero, suc, _+_, _≤_, _<_, max}
 use native.Mathlib.Numerals.{add-one}
 use native.Mathlib.Omega.{arith}
@@ -12,7 +12,7 @@ use lib.Dec.{T, eqb, ltb, eqb→eq, ltb→lt, lt→ltb}
 use lib.ListN.{length, take, set, getD, length-set, length-take}
 use lib.Seq.{take-suc-set, getD-set-same, getD-set-other, getD-take}
 use Rattle.sets.specs.Set.{has, IsWith, IsMeet}
-use Rattle.sets.proofs.TestLaws.{and-l, and-r, and-t, or-false, or-turn, eqb-of, T→false, T-ext}
+use Rattle.sets.proofs.TestLaws.{and-l, and-r, and-t, or-turn, eqb-of, T→false, T-ext}
 use Rattle.sets.proofs.SetLaws.{has-none, no-members}
 use Rattle.clashes.specs.Matrix.{matrix}
 use Rattle.clashes.specs.Divisions.{at, Canon, groups}
@@ -21,11 +21,11 @@ use Rattle.placing.specs.Going.{HoldsAt, Kept, moreOf}
 use Rattle.placing.proofs.CanonLaws.{groups-append, canon-append, groups-fit}
 use Rattle.placing.proofs.PlacingLaws.{admits-make, admits-get}
 
-module _ (cap here m : ℕ) (sets c : List ℕ) (h : HoldsAt cap here m sets c) where
+module _ {cap here m : ℕ} {sets c : List ℕ} (h : HoldsAt cap here m sets c) where
   -- ---- sets and places that are as before hold the same
 
-  pub holds-kept : (sets′ c′ : List ℕ) → Kept here sets c sets′ c′ → HoldsAt cap here m sets′ c′
-  holds-kept sets′ c′ k = record {
+  pub holds-kept : {sets′ c′ : List ℕ} → Kept here sets c sets′ c′ → HoldsAt cap here m sets′ c′
+  holds-kept {sets′} {c′} k = record {
     numbered = subst (Canon 0) (sym (k .places-same)) (h .numbered);
     many = ap (groups 0) (k .places-same) ∙ h .many;
     sets-long = ap length (k .sets-same) ∙ h .sets-long;

@@ -15,7 +15,7 @@ use Rattle.clashes.specs.Matrix.{matrix}
 use Rattle.placing.specs.Search.{State as Described, admits, put, search}
 use Rattle.placing.specs.Going.{stateOf, Fair, HoldsAt, ReadyAt, due, Comes, Kept, moreOf}
 use Rattle.placing.specs.declared.State.{State}
-use Rattle.placing.proofs.Steps.{turn, before, before-in, before-out}
+use Rattle.placing.proofs.Steps.{before, before-in, before-out}
 use Rattle.placing.proofs.Counts.{before-grows}
 use Rattle.placing.proofs.Holding.{holds-kept, groups-few, met-in-none, met-in-some, put-places, holds-put}
 use Rattle.placing.proofs.Entering.{comes-done, comes-spent}
@@ -35,9 +35,9 @@ pub record Turn (cap : ℕ) (rows : List ℕ) (here m : ℕ) (sets₀ c₀ : Lis
   pub budget : t .budget ≡ t₀ .budget
   pub going : t .out ≡ false
 
-pub first-turn : (cap : ℕ) (rows : List ℕ) (here m : ℕ) (sets c : List ℕ) (t : State) → ReadyAt cap rows here m sets c t → here < length rows
+pub first-turn : {cap : ℕ} {rows : List ℕ} {here m : ℕ} {sets c : List ℕ} {t : State} → ReadyAt cap rows here m sets c t → here < length rows
     → Turn cap rows here m sets c t sets c t 0
-first-turn cap rows here m sets c t r l = record {
+first-turn r l = record {
   first = r;
   more = l;
   most = omega arith;
@@ -48,7 +48,7 @@ first-turn cap rows here m sets c t r l = record {
   going = r .going;
 }
 
-module _ (cap : ℕ) (rows : List ℕ) (here m : ℕ) (sets₀ c₀ : List ℕ) (t₀ : State) (sets c : List ℕ) (t : State) (j : ℕ)
+module _ {cap : ℕ} {rows : List ℕ} {here m : ℕ} {sets₀ c₀ : List ℕ} {t₀ : State} {sets c : List ℕ} {t : State} {j : ℕ}
     (u : Turn cap rows here m sets₀ c₀ t₀ sets c t j) where
   abbrev n : ℕ
   n = length rows
@@ -60,18 +60,19 @@ module _ (cap : ℕ) (rows : List ℕ) (here m : ℕ) (sets₀ c₀ : List ℕ) 
   left = n - suc here
 
   pub holds-now : HoldsAt cap here m sets c
-  holds-now = holds-kept cap here m sets₀ c₀ (u .first .holds) sets c (u .kept)
+  holds-now = holds-kept (u .first .holds) (u .kept)
 
   pub entry-inside : here < cap
   entry-inside = omega (arith, u .more, u .first .few)
 
   pub groups-inside : m < cap
-  groups-inside = omega (arith, groups-few cap here m sets c holds-now entry-inside, entry-inside)
+  groups-inside = omega (arith, groups-few holds-now entry-inside, entry-inside)
 
   -- the last turn is over
-  pub last-turn : m < j → Comes n t₀ t (came rows here c₀ t₀ (suc m))
+  pub last-turn : m < j → Comes n t₀ t (came rows here c₀ t₀ (suc m)) × Kept here sets₀ c₀ sets c
   last-turn b =
-      comes-done n t₀ t (came rows here c₀ t₀ (suc m)) (u .going) (u .is ∙ ap (came rows here c₀ t₀) (let z : j ≡ suc m = omega (arith, u .most) in z)) (u .fair) (u .budget)
+      let e : j ≡ suc m = omega (arith, u .most) in
+      (comes-done n t₀ t (came rows here c₀ t₀ (suc m)) (u .going) (u .is ∙ ap (came rows here c₀ t₀) e) (u .fair) (u .budget), u .kept)
 
   pub set-inside : j ≤ m → j < cap
   set-inside low = omega (arith, groups-inside)
@@ -93,7 +94,7 @@ module _ (cap : ℕ) (rows : List ℕ) (here m : ℕ) (sets₀ c₀ : List ℕ) 
         closed : admits clash (take here c₀) j ≡ false
         closed =
             ap (λ (l : List ℕ). admits clash l j) (sym (u .kept .places-same))
-            ∙ met-in-some cap here m sets c holds-now entry-inside j (set-inside low) rows x meets q
+            ∙ met-in-some holds-now entry-inside j (set-inside low) rows x meets q
 
     -- it admits the entry, which is put into it
     module _ (none : x ≡ 0) (g′ : ℕ) (joins : IsWith (getD sets j zero) here g′) where
@@ -110,26 +111,26 @@ module _ (cap : ℕ) (rows : List ℕ) (here m : ℕ) (sets₀ c₀ : List ℕ) 
       put-ready = record {
         few = u .first .few;
         below = omega (arith, u .more);
-        holds = holds-put cap here m sets c holds-now entry-inside j (set-inside low) g′ joins low;
+        holds = holds-put holds-now entry-inside j (set-inside low) g′ joins low;
         fair = u .fair;
         going = u .going;
       }
 
       admitted : T (admits clash (take here c) j)
-      admitted = met-in-none cap here m sets c holds-now entry-inside j (set-inside low) rows x meets none
+      admitted = met-in-none holds-now entry-inside j (set-inside low) rows x meets none
 
       -- what is due at that node is what the turns up to this one come to
       put-due : due rows (here + 1) c′ t ≡ came rows here c₀ t₀ (suc j)
       unfolding due
       put-due =
           ap₂ (λ (k : ℕ) (l : List ℕ). search clash k l (stateOf n t)) (let z : n - (here + 1) ≡ left = omega arith in z)
-          (put-places cap here m sets c holds-now entry-inside j (set-inside low) g′ joins ∙ ap (λ (l : List ℕ). put l j) (u .kept .places-same))
+          (put-places holds-now entry-inside j (set-inside low) g′ joins ∙ ap (λ (l : List ℕ). put l j) (u .kept .places-same))
           ∙ ap (search clash left (put (take here c₀) j)) (u .is)
           ∙ sym (before-in clash left (take here c₀) (stateOf n t₀) j (rw (← u .kept .places-same) admitted))
 
-      module _ (r : State) (sets″ c″ : List ℕ) (comes : Comes n t r (due rows (here + 1) c′ t)) (kept : Kept (here + 1) sets′ c′ sets″ c″) where
+      module _ {r : State} {sets″ c″ : List ℕ} (comes : Comes n t r (due rows (here + 1) c′ t)) (kept : Kept (here + 1) sets′ c′ sets″ c″) where
         -- set j is as it was before the turn
-        pub restored : Kept here sets₀ c₀ (set sets″ j g) c″
+        restored : Kept here sets₀ c₀ (set sets″ j g) c″
         restored = record {
           sets-same = ap (λ (l : List ℕ). set l j g) (kept .sets-same) ∙ set-set sets j g′ g ∙ set-getD sets j zero ∙ u .kept .sets-same;
           places-same = sym (take-take here (here + 1) c″ (omega arith)) ∙ ap (take here) (kept .places-same) ∙ take-take here (here + 1) c′ (omega arith)
@@ -138,17 +139,18 @@ module _ (cap : ℕ) (rows : List ℕ) (here m : ℕ) (sets₀ c₀ : List ℕ) 
         }
 
         -- the budget is spent there: then it is not enough for all turns
-        pub turn-spent : r .out ≡ true → Comes n t₀ r (came rows here c₀ t₀ (suc m))
-        turn-spent o =
-            comes-spent n t₀ r (came rows here c₀ t₀ (suc m)) o
-            (omega (
-              arith,
-              comes .spent o,
-              u .budget,
-              ap (λ (d : Described). d .nodes) put-due,
-              before-grows clash left (take here c₀) (stateOf n t₀) (suc j) (suc m) (omega arith),
-            ))
-            (comes .fair) (comes .budget ∙ u .budget)
+        pub turn-spent : r .out ≡ true → Comes n t₀ r (came rows here c₀ t₀ (suc m)) × Kept here sets₀ c₀ (set sets″ j g) c″
+        turn-spent o = (comes-spent n t₀ r (came rows here c₀ t₀ (suc m)) o over (comes .fair) (comes .budget ∙ u .budget), restored)
+          where
+            over : t₀ .budget < came rows here c₀ t₀ (suc m) .nodes
+            over =
+                omega (
+                  arith,
+                  comes .spent o,
+                  u .budget,
+                  ap (λ (d : Described). d .nodes) put-due,
+                  before-grows clash left (take here c₀) (stateOf n t₀) (suc j) (suc m) (omega arith),
+                )
 
         -- or the next group's turn begins
         pub turn-done : r .out ≡ false → Turn cap rows here m sets₀ c₀ t₀ (set sets″ j g) c″ r (j + 1)

@@ -1,19 +1,15 @@
 -- `placing::enter` meets its contract: a cycle of one function, with a loop on the groups. Assumes nothing.
-use mathlib.Core.Path.{_≡_, refl, sym, ap, _∙_, subst}
+use mathlib.Core.Path.{_≡_, refl}
 use mathlib.Core.Logic.{⊎-elim}
 use mathlib.Core.List.{List}
 use Prim.Native.Nat.{ℕ, suc, _+_, _-_, _<_}
 use native.Mathlib.Omega.{arith}
 use borrow.Author.Needs.{needs}
-use lib.Dec.{T}
-use lib.ListN.{length, take}
-use Rattle.clashes.specs.Matrix.{matrix}
-use Rattle.placing.specs.Search.{admits as admitsOf}
+use lib.ListN.{length}
 use Rattle.placing.specs.Going.{Kept, Comes, due}
 use Rattle.placing.specs.declared.State.{State}
 use Rattle.placing.proofs.Entering.{Counted, counted-out, counted-on, comes-out, comes-back, comes-full, comes-on, on-ready}
-use Rattle.placing.proofs.Turns.{came, Turn, first-turn, last-turn, holds-now, entry-inside, groups-inside, set-inside, passed-over, put-ready, restored, turn-spent, turn-done}
-use Rattle.placing.proofs.Holding.{met-in-none, met-in-some}
+use Rattle.placing.proofs.Turns.{came, Turn, first-turn, last-turn, entry-inside, groups-inside, set-inside, passed-over, put-ready, turn-spent, turn-done}
 use borrow.Fn.Kinds.{In}
 use borrow.Fn.PlainCycle.{Measures, is, falls, and}
 use Rattle.placing.proofs.enter.Reads as enter
@@ -71,26 +67,25 @@ counts : (t : ℕ) (c : enter-lts.Else1 (claims t) (enter-at t) enter.Post enter
     → let a = c .before .before .before in Counted (length (a .args .rows .now)) (a .args .s) (c .before .counted .result)
 counts t c =
     let a = c .before .before .before in
-    counted-on (length (a .args .rows .now)) (a .args .s) (c .before .counted .result) (a .pre .1 .fair) (a .pre .1 .going) (c .before .counted .ensures) (c .if1 .left)
+    counted-on (a .pre .1 .fair) (a .pre .1 .going) (c .before .counted .ensures) (c .if1 .left)
 
 enter-returns : (t : ℕ) → enter-lts.Need-returns (claims t) (enter-at t) enter.Post enter-Inv-loop enter-μ-loop
 enter-returns t c =
     let a = c .before .before .before in
-    let r = c .before .counted .result in
-    let u = counted-out (length (a .args .rows .now)) (a .args .s) r (a .pre .1 .fair) (a .pre .1 .going) (c .before .counted .ensures) (c .if1 .taken) in
-    (comes-out 64 _ _ _ _ _ _ (a .pre .1) r u (c .if1 .taken), unchanged _ _ _)
+    let u = counted-out (a .pre .1 .fair) (a .pre .1 .going) (c .before .counted .ensures) (c .if1 .taken) in
+    (comes-out (a .pre .1) u (c .if1 .taken), unchanged _ _ _)
 
 enter-returns-2 : (t : ℕ) → enter-lts.Need-returns-2 (claims t) (enter-at t) enter.Post enter-Inv-loop enter-μ-loop
 enter-returns-2 t c =
     let e = c .before .before in
     let a = e .before .before .before in
-    (comes-back 64 _ _ _ _ _ _ (a .pre .1) (e .before .counted .result) (counts t e) (c .if2 .taken), unchanged _ _ _)
+    (comes-back (a .pre .1) (counts t e) (c .if2 .taken), unchanged _ _ _)
 
 enter-returns-3 : (t : ℕ) → enter-lts.Need-returns-3 (claims t) (enter-at t) enter.Post enter-Inv-loop enter-μ-loop
 enter-returns-3 t c =
     let e = c .before .before .before .before in
     let a = e .before .before .before in
-    (comes-full 64 _ _ _ _ _ _ (a .pre .1) (e .before .counted .result) (counts t e) (c .before .before .if2 .left) (c .before .if3 .taken), unchanged _ _ _)
+    (comes-full (a .pre .1) (counts t e) (c .before .before .if2 .left) (c .before .if3 .taken), unchanged _ _ _)
 
 -- an entry is still to be placed
 to-place : (t : ℕ) (c : enter-lts.Else3 (claims t) (enter-at t) enter.Post enter-Inv-loop enter-μ-loop)
@@ -116,20 +111,20 @@ whole : (t : ℕ) (c : enter-lts.Else3 (claims t) (enter-at t) enter.Post enter-
     → Comes (length (a .rows .now)) (a .s) r (due (a .rows .now) (a .at) (a .placed .now) (a .s))
 whole t c r x =
     let e = c .before .before .before in
-    comes-on 64 _ _ _ _ _ _ (e .before .before .before .pre .1) (e .before .counted .result) (counts t e) (c .before .if2 .left) (to-place t c) r x
+    comes-on (e .before .before .before .pre .1) (counts t e) (c .before .if2 .left) (to-place t c) x
 
 enter-loop-holds : (t : ℕ) → enter-lts.Need-loop-holds (claims t) (enter-at t) enter.Post enter-Inv-loop enter-μ-loop
 enter-loop-holds t c =
     let e = c .before .before .before .before in
     let a = e .before .before .before in
-    first-turn 64 _ _ _ _ _ _ (on-ready 64 _ _ _ _ _ _ (a .pre .1) (e .before .counted .result) (counts t e) (c .before .before .if2 .left)) (to-place t (c .before))
+    first-turn (on-ready (a .pre .1) (counts t e) (c .before .before .if2 .left)) (to-place t (c .before))
 
 -- group, entry and number of groups are below 64
 inside : (t : ℕ) (l : enter-lts.In-loop (claims t) (enter-at t) enter.Post enter-Inv-loop enter-μ-loop)
     → let a = l .before .before .before .before .before .before .before .before .before .args in (l .before .loop .j < 64) × ((a .at < 64) × (a .m < 64))
 inside t l =
     let u = l .before .loop .inv in
-    (set-inside 64 _ _ _ _ _ _ _ _ _ _ u (l .loop-test .taken), (entry-inside 64 _ _ _ _ _ _ _ _ _ _ u, groups-inside 64 _ _ _ _ _ _ _ _ _ _ u))
+    (set-inside u (l .loop-test .taken), (entry-inside u, groups-inside u))
 
 enter-mul-g : (t : ℕ) → enter-lts.Need-mul-g (claims t) (enter-at t) enter.Post enter-Inv-loop enter-μ-loop
 enter-mul-g t c = let b = inside t c .0 in record { fits = omega arith }
@@ -170,7 +165,7 @@ enter-enter-requires t c κs =
     let p : length (a .args .rows .now) - a .args .at ≡ t = a .pre .0 in
     let b = u .more in (
       omega arith,
-      rw (c .before .before .more .ensures) (put-ready 64 _ _ _ _ _ _ _ _ _ _ u (l .loop-test .taken)
+      rw (c .before .before .more .ensures) (put-ready u (l .loop-test .taken)
           (w .before .before .meet .result) (w .before .before .meet .ensures) (w .before .if4 .taken) (w .with .result) (w .with .ensures)),
     )
 
@@ -185,13 +180,9 @@ enter-returns-4 t c =
     let x = c .before in
     let w = x .before .before .before .before in
     let l = w .before .before .before .before in
-    let u = l .before .loop .inv in (
-      whole t (l .before .before .before) (x .enter .result)
-          (turn-spent 64 _ _ _ _ _ _ _ _ _ _ u (l .loop-test .taken) (w .before .before .meet .result) (w .before .before .meet .ensures) (w .before .if4 .taken)
-          (w .with .result) (w .with .ensures) (x .enter .result) (x .enter .last .1 .1 .1 .0) (x .enter .last .1 .1 .1 .1 .0) (x .enter .ensures .0) (x .enter .ensures .1) (c .if5 .taken)),
-      restored 64 _ _ _ _ _ _ _ _ _ _ u (l .loop-test .taken) (w .before .before .meet .result) (w .before .before .meet .ensures) (w .before .if4 .taken)
-          (w .with .result) (w .with .ensures) (x .enter .result) (x .enter .last .1 .1 .1 .0) (x .enter .last .1 .1 .1 .1 .0) (x .enter .ensures .0) (x .enter .ensures .1),
-    )
+    let z = turn-spent (l .before .loop .inv) (l .loop-test .taken) (w .before .before .meet .result) (w .before .before .meet .ensures) (w .before .if4 .taken)
+    (w .with .result) (w .with .ensures) (x .enter .ensures .0) (x .enter .ensures .1) (c .if5 .taken) in
+    (whole t (l .before .before .before) (x .enter .result) (z .0), z .1)
 
 enter-add-j : (t : ℕ) → enter-lts.Need-add-j (claims t) (enter-at t) enter.Post enter-Inv-loop enter-μ-loop
 enter-add-j t c = let b = inside t (c .before .before .before) .0 in record { fits = omega arith }
@@ -204,18 +195,16 @@ enter-loop-again t c =
     let l = c .before .before .before in
     let u = l .before .loop .inv in
     ⊎-elim
-    (λ w. rw (w .7, w .8, w .9) (turn-done 64 _ _ _ _ _ _ _ _ _ _ u (l .loop-test .taken) (c .before .meet .result) (c .before .meet .ensures) (w .0 .taken) (w .1 .result) (w .1 .ensures)
-    (w .5 .result) (w .5 .last .1 .1 .1 .0) (w .5 .last .1 .1 .1 .1 .0) (w .5 .ensures .0) (w .5 .ensures .1) (w .6 .left)))
-    (λ w. rw (w .1, w .2, w .3) (passed-over 64 _ _ _ _ _ _ _ _ _ _ u (l .loop-test .taken) (c .before .meet .result) (c .before .meet .ensures) (w .0 .left)))
+    (λ w. rw (w .7, w .8, w .9) (turn-done u (l .loop-test .taken) (c .before .meet .result) (c .before .meet .ensures) (w .0 .taken) (w .1 .result) (w .1 .ensures)
+    (w .5 .ensures .0) (w .5 .ensures .1) (w .6 .left)))
+    (λ w. rw (w .1, w .2, w .3) (passed-over u (l .loop-test .taken) (c .before .meet .result) (c .before .meet .ensures) (w .0 .left)))
     (c .if4 .came)
 
 enter-returns-5 : (t : ℕ) → enter-lts.Need-returns-5 (claims t) (enter-at t) enter.Post enter-Inv-loop enter-μ-loop
 enter-returns-5 t c =
     let l = c .before in
-    let u = l .loop .inv in (
-      whole t (l .before .before) (l .loop .t) (last-turn 64 _ _ _ _ _ _ _ _ _ _ u (c .loop-test .left)),
-      u .kept,
-    )
+    let z = last-turn (l .loop .inv) (c .loop-test .left) in
+    (whole t (l .before .before) (l .loop .t) (z .0), z .1)
 
 pub +enter-spec : {M : Type 1} → statement M
 +enter-spec = close μ-enter λ t. enter-lts.spec (claims t)
