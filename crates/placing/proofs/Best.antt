@@ -49,7 +49,8 @@ module _ (n : ℕ) (clash : ℕ → ℕ → Bool) (valid : Valid n clash) where
             free = proper-free n clash c (subst (λ (k : ℕ). Proper k clash (at c)) e (d .free));
           }
 
-      on : (left : ℕ) (c : List ℕ) (s : State) → groups 0 c < size s → ((t : State) (j : ℕ) → Node n clash valid left (put c j) → Fit t → Fit (turn clash left c t j))
+      on : (left : ℕ) (c : List ℕ) (s : State) → groups 0 c < size s
+          → ((t : State) (j : ℕ) → Node n clash valid left (put c j) → Fit t → Fit (turn clash left c t j))
           → Node n clash valid (suc left) c → Fit s → Fit (over (turn clash left c) (enter s) (choices clash c))
       on left c s h r d p =
           over-keeps (turn clash left c) Fit (choices clash c) (enter s) (λ t j i q. r t j (put-node n clash valid left c j d i) q) (kept s p)

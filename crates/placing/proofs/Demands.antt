@@ -1,8 +1,9 @@
 -- THE DEMANDS of document 02, Ask 6. Read this file first.
 --
--- `PromisedUpTo most rows before budget a after` (specs/Promise.antt) is what `fewest_by_placing` is proved to meet, for lists of up to `most` entries: `rows` and
--- the colour bytes `before` are lent, a is the answer and `after` are the bytes afterwards. `Promised`, which its contract names, is the same at 64. Each theorem
--- says what follows from it, for every list, buffer and budget. `searched rows` is the described search (specs/Search.antt). Assumes nothing.
+-- `PromisedUpTo most rows before budget a after` (specs/Promise.antt) is what `fewest_by_placing` is proved to meet, for lists of up to `most` entries:
+-- `rows` and the colour bytes `before` are lent, a is the answer and `after` are the bytes afterwards. `Promised`, which its contract names, is the same
+-- at 64. Each theorem says what follows from it, for every list, buffer and budget. `searched rows` is the described search (specs/Search.antt). Assumes
+-- nothing.
 use mathlib.Core.Path.{_≡_, sym}
 use mathlib.Core.Logic.{_≢_}
 use mathlib.Core.Bool.{Bool}
@@ -70,15 +71,15 @@ module _ (most : ℕ) (rows before : List ℕ) (budget : ℕ) where
     pub rest-kept : drop (length rows) after ≡ drop (length rows) before
     rest-kept = p .kept
 
-    -- "It has its own budget and node count": that of the nodes entered in the described search, within the budget; and its colours are that search's.
+    -- "It has its own budget and node count": that of the described search, within the budget. Its colours are that search's too.
     pub count-reported : (m ≡ searched rows .nodes) × (m ≤ budget)
     count-reported = (p .count, p .paid)
 
     pub colours-reported : take (length rows) after ≡ searched rows .best
     colours-reported = p .best
 
-  -- A budget is refused exactly when the search needs more: a valid list with room for its colours is accepted, with the described search's count, exactly where
-  -- that is within the budget.
+  -- A budget is refused exactly when the search needs more: a valid list with room for its colours is accepted, with the described search's count,
+  -- exactly where that is within the budget.
   module _ (a : Answer) (after : List ℕ) (p : PromisedUpTo most rows before budget a after) (room : OpenUpTo most rows (length before)) where
     pub accepted-within : searched rows .nodes ≤ budget → a ≡ Accepted (size (searched rows)) (searched rows .nodes)
     accepted-within = laws.enough-accepted most rows before budget a after p room

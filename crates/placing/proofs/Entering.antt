@@ -1,5 +1,5 @@
--- A node of the code is entered, each way against the described search: it is not counted, or it is and the search goes back, finds it full, or goes on to the
--- next entry's placings. Assumes nothing.
+-- A node of the code is entered, each way against the described search: it is not counted; or it is, and the search goes back, finds it full, or goes
+-- on to the next entry's placings. Assumes nothing.
 use mathlib.Core.Path.{_≡_, refl, sym, ap, ap₂, _∙_, subst}
 use mathlib.Core.Bool.{Bool, true, false, true≢false}
 use mathlib.Core.List.{List}
@@ -94,21 +94,30 @@ module _ {cap : ℕ} {rows : List ℕ} {here m : ℕ} {sets c : List ℕ} {s : S
     pub comes-back : t .k ≤ m → Comes n s t (due rows here c s)
     unfolding due
     comes-back h =
+        let b : size (stateOf n s) ≤ groups 0 (take here c) = omega (arith, best-size, ready .holds .many) in
         comes-done n s t (search clash (n - here) (take here c) (stateOf n s)) (counts .going)
-        (counts .is ∙ sym (search-back clash (n - here) (take here c) (stateOf n s) (omega (arith, best-size, ready .holds .many)))) (counts .fair) (counts .budget)
+        (counts .is ∙ sym (search-back clash (n - here) (take here c) (stateOf n s) b)) (counts .fair) (counts .budget)
 
     module _ (below : m < t .k) where
       small : groups 0 (take here c) < size (stateOf n s)
       small = omega (arith, best-size, ready .holds .many)
 
+      -- the placing is t's best
+      abbrev better : State
+      better = record { best = c; k = m; nodes = t .nodes; budget = t .budget; out = t .out }
+
       -- "a full placing below it becomes the best"
-      pub comes-full : here ≡ length rows → Comes n s (record { best = c; k = m; nodes = t .nodes; budget = t .budget; out = t .out }) (due rows here c s)
+      pub comes-full : here ≡ length rows → Comes n s better (due rows here c s)
       unfolding due
       comes-full e =
-          comes-done n s (record { best = c; k = m; nodes = t .nodes; budget = t .budget; out = t .out }) (search clash (n - here) (take here c) (stateOf n s)) (counts .going)
-          (ap₂ (λ (b : List ℕ) (k : ℕ). record { best = b; nodes = k }) (ap (λ (k : ℕ). take k c) (sym e)) (ap (λ (d : Described). d .nodes) (counts .is)) ∙ sym full)
+          comes-done n s better (search clash (n - here) (take here c) (stateOf n s)) (counts .going) (is ∙ sym full)
           (record { size = sym (ready .holds .many) ∙ ap (λ (k : ℕ). groups 0 (take k c)) e; paid = counts .fair .paid }) (counts .budget)
         where
+          is : stateOf n better ≡ become (take here c) (enter (stateOf n s))
+          is =
+              ap₂ (λ (b : List ℕ) (k : ℕ). record { best = b; nodes = k }) (ap (λ (k : ℕ). take k c) (sym e))
+              (ap (λ (d : Described). d .nodes) (counts .is))
+
           full : search clash (n - here) (take here c) (stateOf n s) ≡ become (take here c) (enter (stateOf n s))
           full =
               ap (λ (k : ℕ). search clash k (take here c) (stateOf n s)) (let z : n - here ≡ 0 = omega arith in z)
@@ -123,7 +132,8 @@ module _ {cap : ℕ} {rows : List ℕ} {here m : ℕ} {sets c : List ℕ} {s : S
           ∙ ap (over (turn clash (n - suc here) (take here c)) (enter (stateOf n s))) (choices-are clash (take here c))
           ∙ ap₂ (λ (d : Described) (k : ℕ). before clash (n - suc here) (take here c) d (suc k)) (sym (counts .is)) (ready .holds .many)
 
-      pub comes-on : here < length rows → {r : State} → Comes n t r (before clash (n - suc here) (take here c) (stateOf n t) (suc m)) → Comes n s r (due rows here c s)
+      pub comes-on : here < length rows → {r : State} → Comes n t r (before clash (n - suc here) (take here c) (stateOf n t) (suc m))
+          → Comes n s r (due rows here c s)
       comes-on l x = record {
         done = λ o. x .done o ∙ sym (due-on l);
         spent = λ o. omega (arith, x .spent o, counts .budget, ap (λ (d : Described). d .nodes) (due-on l));

@@ -1,5 +1,5 @@
--- The described search of small lists, computed: best division and nodes, each with its placings in the order in which they are entered, as one counts them by
--- hand. A bar stands before those that go back at once. Assumes nothing.
+-- The described search of small lists, computed: best division and nodes. Beside each its placings in the order in which they are entered, as one counts
+-- them by hand; a bar stands before those that go back at once. Assumes nothing.
 use mathlib.Core.Path.{_≡_, refl}
 use mathlib.Core.List.{List, [], _∷_}
 use Prim.Native.Nat.{ℕ}

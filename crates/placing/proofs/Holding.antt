@@ -95,8 +95,8 @@ module _ {cap here m : ℕ} {sets c : List ℕ} (h : HoldsAt cap here m sets c) 
         pub put-places : take (here + 1) c′ ≡ put (take here c) j
         put-places = ap (λ (k : ℕ). take k c′) (add-one here) ∙ take-suc-set c here j (omega (arith, h .places-long))
 
-        own : getD c′ here zero ≡ j
-        own = getD-set-same c here j zero (omega (arith, h .places-long))
+        own : (i : ℕ) → i ≡ here → getD c′ i zero ≡ j
+        own i e = ap (λ (z : ℕ). getD c′ z zero) e ∙ getD-set-same c here j zero (omega (arith, h .places-long))
 
         -- which entries are placed
         in-now : (i : ℕ) → i ≡ here → ltb i (here + 1) ≡ true
@@ -104,7 +104,8 @@ module _ {cap here m : ℕ} {sets c : List ℕ} (h : HoldsAt cap here m sets c) 
 
         in-before : (i : ℕ) → i ≢ here → ltb i (here + 1) ≡ ltb i here
         in-before i q =
-            T-ext (ltb i (here + 1)) (ltb i here) (λ t. lt→ltb i here (omega (arith, ltb→lt i (here + 1) t))) (λ t. lt→ltb i (here + 1) (omega (arith, ltb→lt i here t)))
+            T-ext (ltb i (here + 1)) (ltb i here) (λ t. lt→ltb i here (omega (arith, ltb→lt i (here + 1) t)))
+            (λ t. lt→ltb i (here + 1) (omega (arith, ltb→lt i here t)))
 
         -- the other entries are where they were
         others : (k i : ℕ) → k < cap → i ≢ here → has (getD sets k zero) i ≡ (ltb i (here + 1) && eqb (getD c′ i zero) k)
@@ -120,14 +121,14 @@ module _ {cap here m : ℕ} {sets c : List ℕ} (h : HoldsAt cap here m sets c) 
             go : Dec (k ≡ j) → Dec (i ≡ here) → has (getD sets′ k zero) i ≡ (ltb i (here + 1) && eqb (getD c′ i zero) k)
             go (yes p) (yes q) =
                 ap (λ (z : ℕ). has (getD sets′ z zero) i) p ∙ changed i ∙ ap (λ (z : Bool). z || has g i) (eq-eqb here i (sym q))
-                ∙ sym (ap₂ (λ (a b : Bool). a && b) (in-now i q) (ap (λ (z : ℕ). eqb (getD c′ z zero) k) q ∙ ap (λ (z : ℕ). eqb z k) own ∙ eq-eqb j k (sym p)))
+                ∙ sym (ap₂ (λ (a b : Bool). a && b) (in-now i q) (ap (λ (z : ℕ). eqb z k) (own i q) ∙ eq-eqb j k (sym p)))
             go (yes p) (no q) =
                 ap (λ (z : ℕ). has (getD sets′ z zero) i) p ∙ changed i ∙ ap (λ (z : Bool). z || has g i) (ne-eqb here i (λ r. q (sym r)))
                 ∙ ap (λ (z : ℕ). has (getD sets z zero) i) (sym p) ∙ others k i b q
             go (no p) (yes q) =
                 ap (λ (z : ℕ). has z i) (getD-set-other sets j k g′ zero p) ∙ h .members k i b
                 ∙ ap (λ (z : Bool). z && eqb (getD c i zero) k) (le-ltb i here (omega arith))
-                ∙ sym (ap₂ (λ (a b : Bool). a && b) (in-now i q) (ap (λ (z : ℕ). eqb (getD c′ z zero) k) q ∙ ap (λ (z : ℕ). eqb z k) own ∙ ne-eqb j k (λ r. p (sym r))))
+                ∙ sym (ap₂ (λ (a b : Bool). a && b) (in-now i q) (ap (λ (z : ℕ). eqb z k) (own i q) ∙ ne-eqb j k (λ r. p (sym r))))
             go (no p) (no q) = ap (λ (z : ℕ). has z i) (getD-set-other sets j k g′ zero p) ∙ others k i b q
 
         pub holds-put : j ≤ m → HoldsAt cap (here + 1) (moreOf m j) sets′ c′

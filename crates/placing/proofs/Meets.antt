@@ -50,7 +50,8 @@ module _ (most : ℕ) (rows before : List ℕ) (budget : ℕ) (opened : OpenUpTo
       many = refl;
       sets-long = a;
       places-long = b;
-      members = λ j y l. ap (λ (x : ℕ). has x y) (zeros sets z j) ∙ has-none y ∙ sym (ap (λ (b : Bool). b && eqb (getD c y zero) j) (le-ltb y 0 (omega arith)));
+      members = λ j y l. ap (λ (x : ℕ). has x y) (zeros sets z j) ∙ has-none y
+          ∙ sym (ap (λ (b : Bool). b && eqb (getD c y zero) j) (le-ltb y 0 (omega arith)));
     };
     fair = i .fair;
     going = i .going;

@@ -89,8 +89,10 @@ module _ (n : ℕ) (clash : ℕ → ℕ → Bool) (valid : Valid n clash) where
               valid .no-self x (omega (arith, last x a p, d .long)) (subst (λ (k : ℕ). T (clash x k)) (last y b q ∙ sym (last x a p)) u)
 
   -- a clash-free division goes on from c by one of the choices
-  pub choice : (c : List ℕ) (j : ℕ) (e : List ℕ) → length (c ++ j ∷ e) ≡ n → Canon 0 (c ++ j ∷ e) → Proper n clash (at (c ++ j ∷ e)) → In j (choices clash c)
-  choice c j e l g f = subst (In j) (sym (choices-are clash c)) (members-In (admits clash c) (suc (groups 0 c)) j (omega (arith, canon-behind 0 c (j ∷ e) g .0)) ok)
+  pub choice : (c : List ℕ) (j : ℕ) (e : List ℕ) → length (c ++ j ∷ e) ≡ n → Canon 0 (c ++ j ∷ e) → Proper n clash (at (c ++ j ∷ e))
+      → In j (choices clash c)
+  choice c j e l g f =
+      subst (In j) (sym (choices-are clash c)) (members-In (admits clash c) (suc (groups 0 c)) j (omega (arith, canon-behind 0 c (j ∷ e) g .0)) ok)
     where
       ok : T (admits clash c j)
       ok =

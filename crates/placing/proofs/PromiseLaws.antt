@@ -1,5 +1,5 @@
--- What the search by placing promises leaves one answer and one state of the lent bytes; it is refused for effort exactly where the described search has more
--- nodes than the budget. Assumes nothing.
+-- What the search by placing promises leaves one answer and one state of the lent bytes; it is refused for effort exactly where the described search
+-- has more nodes than the budget. Assumes nothing.
 use mathlib.Core.Path.{_≡_, refl, sym, ap, ap₂, _∙_}
 use mathlib.Core.Logic.{_≢_}
 use mathlib.Core.Bool.{cond}

@@ -1,5 +1,5 @@
--- The turns of the code's loop over the groups, each against the described search: a group is passed over, or the entry is put into it and the node entered,
--- after which the sets are restored. Assumes nothing.
+-- The turns of the code's loop over the groups, each against the described search: a group is passed over, or the entry is put into it and the node
+-- entered, after which the sets are restored. Assumes nothing.
 use mathlib.Core.Path.{_≡_, refl, sym, ap, ap₂, _∙_}
 use mathlib.Core.Logic.{_≢_}
 use mathlib.Core.Bool.{Bool, true, false}

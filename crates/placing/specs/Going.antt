@@ -8,6 +8,7 @@
 --   due                : what the described search comes to from that node
 --   Comes n s r w      : from s the search came to r. It holds the described state w; or it is out, and w has more nodes than the budget
 --   Kept               : the sets, and the places of the first `at` entries, are as before
+--   Entered            : both: the node that these hold was entered from s, and it came to r
 --   counted s          : s with one node more, or out where the budget has no more
 --   moreOf m j         : how many groups there are of m, once an entry is put into group j
 --
@@ -67,6 +68,9 @@ pub record Kept (at : ℕ) (sets c sets′ c′ : List ℕ) : Type 0 where
   pub sets-same : sets′ ≡ sets
   pub places-same : take at c′ ≡ take at c
   pub places-long : length c′ ≡ length c
+
+abbrev pub Entered : List ℕ → ℕ → List ℕ → List ℕ → State → State → List ℕ → List ℕ → Type 0
+Entered rows at sets c s r sets′ c′ = Comes (length rows) s r (due rows at c s) × Kept at sets c sets′ c′
 
 abbrev pub counted : State → State
 counted s =

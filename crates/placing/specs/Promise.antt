@@ -2,8 +2,8 @@
 --
 --   Numbers, numbers a : an answer in document 01's numbers: its number in the table (crate refusals), and k, nodes and row; 0 where it names none
 --   searched rows      : the described search of the list
---   Accepts            : the list is accepted: k is the chromatic number, the bytes are a clash-free division into k groups (fewest, division, free, many), the
---                        division and the count are those of the described search (best, count, paid), and the bytes from n on stay
+--   Accepts            : the list is accepted: k is the chromatic number, and the bytes are a clash-free division into k groups (fewest, division, free,
+--                        many); division and count are those of the described search (best, count, paid), and the bytes from n on stay
 --   Spent              : what refusal 6 says: the described search has more nodes than the budget
 --   Met v after        : what the numbers v say is so, and `after` are the bytes
 --   Promised a after   : the same of an answer's numbers

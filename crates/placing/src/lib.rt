@@ -7,7 +7,7 @@ use sets::with;
 ghost use mathlib.Core.Path.{_≡_};
 ghost use Prim.Native.Nat.{_≤_, _<_};
 ghost use lib.ListN.{length};
-ghost use Rattle.placing.specs.Going.{Starts, Ready, Comes, Kept, counted as countedOf, due, moreOf};
+ghost use Rattle.placing.specs.Going.{Starts, Ready, Entered, counted as countedOf, moreOf};
 ghost use Rattle.placing.specs.Promise.{Promised, Told};
 
 // The answer: accepted, with the fewest groups and the nodes entered; or refused, with the row at fault or the nodes entered.
@@ -75,8 +75,8 @@ fn more(m: usize, j: usize) -> usize
     m
 }
 
-// The node is entered at which the entries below `at` are placed, into m groups. Group m, which is empty, is the new one: it admits every entry. Afterwards
-// the groups, and the places of the entries below `at`, are as before.
+// The node is entered at which the entries below `at` are placed, into m groups. Group m, which is empty, is the new one: it admits every entry.
+// Afterwards the groups, and the places of the entries below `at`, are as before.
 fn enter(
     at: usize,
     m: usize,
@@ -86,7 +86,7 @@ fn enter(
     s: State,
 ) -> State
     requires { ⌜ Ready (now rows) at m (now groups) (now placed) s ⌝ }
-    ensures { λ r. ⌜ Comes (length (now (rows .entry))) s r (due (now (rows .entry)) at (now (placed .entry)) s) × Kept at (now (groups .entry)) (now (placed .entry)) (now (groups .exit)) (now (placed .exit)) ⌝ }
+    ensures { λ r. ⌜ Entered (now (rows .entry)) at (now (groups .entry)) (now (placed .entry)) s r (now (groups .exit)) (now (placed .exit)) ⌝ }
 {
     let entered = counted(s);
     if entered.out {
