@@ -1,8 +1,9 @@
 -- `placing::fewest_by_placing` meets its contract. Assumes nothing.
-use mathlib.Core.Path.{refl, subst}
+use mathlib.Core.Path.{_≡_, refl, subst}
 use borrow.Author.Needs.{needs}
 use lib.ListN.{length}
 use Rattle.clashes.specs.Matrix.{Judged}
+use Rattle.clashes.specs.declared.Verdict.{Verdict}
 use Rattle.placing.specs.Room.{OpenUpTo}
 use Rattle.placing.proofs.Meets.{start-ready, promised-told}
 use Rattle.placing.proofs.fewest_by_placing.Statement.{statement}
@@ -26,13 +27,15 @@ enum-known-v-3 c = search needs
 enum-told-2 : tie.Need-enum-told-2
 enum-told-2 c = search needs
 
+-- the verdict is what validity promised
+judged : (v : tie.After-validity) {a : Verdict} → v .validity .result ≡ a → Judged (v .before .before .before .args .rows .now) a
+judged v e = subst (Judged (v .before .before .before .args .rows .now)) e (v .validity .ensures)
+
 -- ---- the search starts
 
 -- there is no cause for refusals 1 to 5
 opened : (c : tie.Else1) → let a = c .before .before .before .before .before .before .args in OpenUpTo 64 (a .rows .now) (length (a .colours .now))
-opened c =
-    let v = c .before .before .before in
-    record { sound = subst (Judged (v .before .before .before .args .rows .now)) (c .before .enum-told2 .given .1) (v .validity .ensures); bytes = c .if1 .left }
+opened c = record { sound = judged (c .before .before .before) (c .before .enum-told2 .given .1); bytes = c .if1 .left }
 
 start-requires : tie.Need-start-requires
 start-requires c κs = opened (c .before .before) .sound .apart .inside .few
@@ -55,29 +58,25 @@ returns-6 c =
     let e = t .before .before in
     let o = e .before .before .before .before in
     let a = o .before .before .before .before .before .before .args in
-    promised-told 64 (a .rows .now) (a .colours .now) (a .budget) (opened o) _ (e .before .start .result) (e .enter .result) (e .before .start .ensures) (e .enter .ensures .0)
-    _ _ (t .told .ensures)
+    promised-told 64 (a .rows .now) (a .colours .now) (a .budget) (opened o) _ (e .before .start .result) (e .enter .result) (e .before .start .ensures)
+    (e .enter .ensures .0) _ _ (t .told .ensures)
 
 -- ---- or is refused: 5, then 1 to 4
 
 returns : tie.Need-returns
-returns c =
-    let v = c .before .before .before in (
-      record { sound = subst (Judged (v .before .before .before .args .rows .now)) (c .before .enum-told2 .given .1) (v .validity .ensures); bytes = c .if1 .taken },
-      refl,
-    )
+returns c = (record { sound = judged (c .before .before .before) (c .before .enum-told2 .given .1); bytes = c .if1 .taken }, refl)
 
 returns-2 : tie.Need-returns-2
-returns-2 c = let v = c .before .before in (subst (Judged (v .before .before .before .args .rows .now)) (c .enum-told .given .1) (v .validity .ensures), refl)
+returns-2 c = (judged (c .before .before) (c .enum-told .given .1), refl)
 
 returns-3 : tie.Need-returns-3
-returns-3 c = let v = c .before .before .before in (subst (Judged (v .before .before .before .args .rows .now)) (c .before .v .given .1) (v .validity .ensures), refl)
+returns-3 c = (judged (c .before .before .before) (c .before .v .given .1), refl)
 
 returns-4 : tie.Need-returns-4
-returns-4 c = let v = c .before .before .before in (subst (Judged (v .before .before .before .args .rows .now)) (c .before .v2 .given .1) (v .validity .ensures), refl)
+returns-4 c = (judged (c .before .before .before) (c .before .v2 .given .1), refl)
 
 returns-5 : tie.Need-returns-5
-returns-5 c = let v = c .before .before .before in (subst (Judged (v .before .before .before .args .rows .now)) (c .before .v3 .given .1) (v .validity .ensures), refl)
+returns-5 c = (judged (c .before .before .before) (c .before .v3 .given .1), refl)
 
 pub fewest-by-placing-spec : {M : Type 1} → statement M
 fewest-by-placing-spec =
