@@ -1,14 +1,14 @@
--- The described search's count only grows. Assumes nothing.
+-- The described search's count only grows, and is never above that of the search that never goes back. Assumes nothing.
 use mathlib.Core.Path.{_≡_, ap}
 use mathlib.Core.Bool.{Bool}
-use mathlib.Core.List.{List}
-use Prim.Native.Nat.{ℕ, zero, suc, _≤_, _<_}
+use mathlib.Core.List.{List, [], _∷_}
+use Prim.Native.Nat.{ℕ, zero, suc, _+_, _≤_, _<_}
 use native.Mathlib.Nat.{le-refl}
 use native.Mathlib.Decide.{ℕ-discrete}
 use native.Mathlib.Omega.{arith}
 use Rattle.sets.specs.Lists.{keep, members, over}
 use Rattle.clashes.specs.Divisions.{groups}
-use Rattle.placing.specs.Search.{State, enter, size, admits, choices, put, search}
+use Rattle.placing.specs.Search.{State, enter, size, admits, choices, put, search, nodesFrom}
 use Rattle.placing.proofs.OverLaws.{over-append, over-keeps}
 use Rattle.placing.proofs.Steps.{turn, before, search-by}
 
@@ -42,3 +42,29 @@ module _ (clash : ℕ → ℕ → Bool) where
           → before clash left c s j .nodes ≤ before clash left c s (suc k) .nodes
       go (yes e) r = rw e (omega arith)
       go (no q) r = omega (arith, r (omega arith), last)
+
+  -- ---- going back only saves nodes
+
+  counts-some : (left : ℕ) (c : List ℕ) → 1 ≤ nodesFrom clash left c
+  unfolding nodesFrom
+  counts-some zero c = le-refl 1
+  counts-some (suc left) c = over-keeps (λ k j. k + nodesFrom clash left (put c j)) (λ k. 1 ≤ k) (choices clash c) 1 (λ k j i b. omega arith) (le-refl 1)
+
+  -- turns that each enter no more nodes than w says
+  over-most : (f : State → ℕ → State) (w : ℕ → ℕ) → ((t : State) (j : ℕ) → f t j .nodes ≤ t .nodes + w j) → (l : List ℕ) (s t : State) (k : ℕ)
+      → t .nodes ≤ s .nodes + k → over f t l .nodes ≤ s .nodes + over (λ k j. k + w j) k l
+  over-most f w h [] s t k b = b
+  over-most f w h (j ∷ l) s t k b = over-most f w h l s (f t j) (k + w j) (omega (arith, h t j))
+
+  pub search-most : (left : ℕ) (c : List ℕ) (s : State) → search clash left c s .nodes ≤ s .nodes + nodesFrom clash left c
+  unfolding nodesFrom
+  search-most =
+      search-by clash (λ left c s t. t .nodes ≤ s .nodes + nodesFrom clash left c) (λ left c s h. omega (arith, counts-some left c)) full on
+    where
+      full : (c : List ℕ) (s : State) → groups 0 c < size s → suc (s .nodes) ≤ s .nodes + nodesFrom clash zero c
+      full c s h = omega (arith, counts-some zero c)
+
+      on : (left : ℕ) (c : List ℕ) (s : State) → groups 0 c < size s
+          → ((t : State) (j : ℕ) → turn clash left c t j .nodes ≤ t .nodes + nodesFrom clash left (put c j))
+          → over (turn clash left c) (enter s) (choices clash c) .nodes ≤ s .nodes + nodesFrom clash (suc left) c
+      on left c s h r = over-most (turn clash left c) (λ j. nodesFrom clash left (put c j)) r (choices clash c) s (enter s) 1 (omega arith)

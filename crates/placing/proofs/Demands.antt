@@ -7,8 +7,9 @@
 use mathlib.Core.Path.{_≡_, sym}
 use mathlib.Core.Logic.{_≢_}
 use mathlib.Core.Bool.{Bool}
-use mathlib.Core.List.{List}
+use mathlib.Core.List.{List, []}
 use Prim.Native.Nat.{ℕ, _≤_, _<_}
+use native.Mathlib.Omega.{arith}
 use lib.Dec.{T}
 use lib.ListN.{length, take, drop}
 use Rattle.refusals.specs.Table.{accepted}
@@ -16,12 +17,13 @@ use Rattle.clashes.specs.Matrix.{matrix, Valid}
 use Rattle.clashes.specs.Colouring.{Chromatic}
 use Rattle.clashes.specs.Divisions.{groups, Division, clashFree}
 use Rattle.clashes.proofs.Meaning.{chromatic-fewest, chromatic-unique}
-use Rattle.placing.specs.Search.{size, placingSearch}
+use Rattle.placing.specs.Search.{start, size, placingSearch, nodesFrom}
 use Rattle.placing.specs.Room.{OpenUpTo}
 use Rattle.placing.specs.Promise.{numbers, searched, PromisedUpTo, answerUpTo}
 use Rattle.placing.specs.declared.Answer.{Answer}
 use Rattle.placing.specs.declared.Answer.the-variants.{Accepted, Budget}
 use Rattle.placing.proofs.Best as best
+use Rattle.placing.proofs.Counts as counts
 use Rattle.placing.proofs.PromiseLaws as laws
 
 -- ---- of the described search
@@ -29,6 +31,10 @@ use Rattle.placing.proofs.PromiseLaws as laws
 -- Of a list in which clashes go both ways and no entry clashes with itself, its best is a clash-free division, and none has fewer groups.
 pub search-chromatic : (n : ℕ) (clash : ℕ → ℕ → Bool) → Valid n clash → Chromatic n clash (size (placingSearch n clash))
 search-chromatic = best.placing-chromatic
+
+-- Going back only saves nodes: its count is never above that of the same search that never goes back.
+pub search-saves : (n : ℕ) (clash : ℕ → ℕ → Bool) → placingSearch n clash .nodes ≤ nodesFrom clash n []
+search-saves n clash = omega (arith, counts.search-most clash n [] (start n))
 
 -- ---- of the call
 

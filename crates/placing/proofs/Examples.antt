@@ -4,7 +4,7 @@ use mathlib.Core.Path.{_≡_, refl}
 use mathlib.Core.List.{List, [], _∷_}
 use Prim.Native.Nat.{ℕ}
 use Rattle.clashes.specs.Matrix.{matrix}
-use Rattle.placing.specs.Search.{State, search, placingSearch}
+use Rattle.placing.specs.Search.{State, search, placingSearch, nodesFrom}
 
 answer : List ℕ → ℕ → State
 answer best nodes = record { best = best; nodes = nodes }
@@ -28,6 +28,11 @@ one-clash = refl
 apart : placingSearch 3 (matrix (0 ∷ 0 ∷ 0 ∷ [])) ≡ answer (0 ∷ 0 ∷ 0 ∷ []) 6
 unfolding search answer
 apart = refl
+
+-- and all there are: the empty start, 0, 00, 000, 001, 01, 010, 011, 012
+apart-all : nodesFrom (matrix (0 ∷ 0 ∷ 0 ∷ [])) 3 [] ≡ 9
+unfolding nodesFrom
+apart-all = refl
 
 -- the path 0 - 1 - 2: the empty start, 0, 01, 010 the best, |012
 path : placingSearch 3 (matrix (2 ∷ 5 ∷ 2 ∷ [])) ≡ answer (0 ∷ 1 ∷ 0 ∷ []) 5

@@ -12,11 +12,12 @@
 --   become c s            : the full placing c becomes the best
 --   search clash left c s : the search from the node c, where `left` entries are still to be placed, from s
 --   placingSearch n clash : the whole search of a list
+--   nodesFrom clash left c: how many nodes a search from c has that never goes back
 --
 -- Assumes nothing.
 use mathlib.Core.Bool.{Bool, true, false, not, _&&_}
 use mathlib.Core.List.{List, [], _∷_, _++_}
-use Prim.Native.Nat.{ℕ, zero, suc}
+use Prim.Native.Nat.{ℕ, zero, suc, _+_}
 use lib.Dec.{eqb, leb}
 use lib.ListN.{length}
 use Rattle.sets.specs.Lists.{all, members, over}
@@ -70,3 +71,8 @@ search clash (suc left) c s = unless (reached c s) (enter s) (λ t. over (λ t j
 -- from "the empty start"
 abbrev pub placingSearch : ℕ → (ℕ → ℕ → Bool) → State
 placingSearch n clash = search clash n [] (start n)
+
+-- the node c, and those from each placing of the next entry
+unfoldable pub nodesFrom : (ℕ → ℕ → Bool) → ℕ → List ℕ → ℕ
+nodesFrom clash zero c = 1
+nodesFrom clash (suc left) c = over (λ k j. k + nodesFrom clash left (put c j)) 1 (choices clash c)
