@@ -7,9 +7,10 @@ use native.Mathlib.Nat.{le-refl}
 use native.Mathlib.Decide.{ℕ-discrete}
 use native.Mathlib.Omega.{arith}
 use Rattle.sets.specs.Lists.{keep, members, over}
+use Rattle.sets.proofs.ListLaws.{over-append}
 use Rattle.clashes.specs.Divisions.{groups}
 use Rattle.placing.specs.Search.{State, enter, size, admits, choices, put, search, nodesFrom}
-use Rattle.placing.proofs.OverLaws.{over-append, over-keeps}
+use Rattle.placing.proofs.OverLaws.{over-keeps}
 use Rattle.placing.proofs.Steps.{turn, before, search-by}
 
 -- turns that each enter a node or more

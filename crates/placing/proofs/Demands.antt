@@ -16,9 +16,9 @@ use Rattle.refusals.specs.Table.{accepted}
 use Rattle.clashes.specs.Matrix.{matrix, Valid}
 use Rattle.clashes.specs.Colouring.{Chromatic}
 use Rattle.clashes.specs.Divisions.{groups, Division, clashFree}
+use Rattle.clashes.specs.Room.{OpenUpTo}
 use Rattle.clashes.proofs.Meaning.{chromatic-fewest, chromatic-unique}
 use Rattle.placing.specs.Search.{start, size, placingSearch, nodesFrom}
-use Rattle.placing.specs.Room.{OpenUpTo}
 use Rattle.placing.specs.Promise.{numbers, searched, PromisedUpTo, answerUpTo}
 use Rattle.placing.specs.declared.Answer.{Answer}
 use Rattle.placing.specs.declared.Answer.the-variants.{Accepted, Budget}

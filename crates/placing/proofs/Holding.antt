@@ -16,9 +16,10 @@ use Rattle.sets.proofs.TestLaws.{and-l, and-r, and-t, or-turn, eqb-of, T→fals
 use Rattle.sets.proofs.SetLaws.{has-none, no-members}
 use Rattle.clashes.specs.Matrix.{matrix}
 use Rattle.clashes.specs.Divisions.{at, Canon, groups}
+use Rattle.clashes.proofs.DivisionLaws.{groups-fit}
 use Rattle.placing.specs.Search.{admits, put}
 use Rattle.placing.specs.Going.{HoldsAt, Kept, moreOf}
-use Rattle.placing.proofs.CanonLaws.{groups-append, canon-append, groups-fit}
+use Rattle.placing.proofs.CanonLaws.{groups-append, canon-append}
 use Rattle.placing.proofs.PlacingLaws.{admits-make, admits-get}
 
 module _ {cap here m : ℕ} {sets c : List ℕ} (h : HoldsAt cap here m sets c) where

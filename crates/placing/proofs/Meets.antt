@@ -16,10 +16,10 @@ use Rattle.sets.proofs.SetLaws.{has-none}
 use Rattle.clashes.specs.Matrix.{matrix, Valid}
 use Rattle.clashes.specs.Colouring.{Chromatic}
 use Rattle.clashes.specs.Divisions.{groups, Division, clashFree}
+use Rattle.clashes.specs.Room.{OpenUpTo}
 use Rattle.clashes.proofs.MatrixLaws.{sound-valid}
 use Rattle.placing.specs.Search.{State as Described, size, search}
 use Rattle.placing.specs.Going.{stateOf, Starts, ReadyAt, due, Comes}
-use Rattle.placing.specs.Room.{OpenUpTo}
 use Rattle.placing.specs.Promise.{searched, PromisedUpTo, Told}
 use Rattle.placing.specs.declared.State.{State}
 use Rattle.placing.specs.declared.Answer.{Answer}

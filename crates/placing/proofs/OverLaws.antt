@@ -1,14 +1,10 @@
--- Laws of `over`: of joined lists, and what each step keeps. Assumes nothing.
-use mathlib.Core.Path.{_≡_, refl}
+-- Laws of `over`: what each step keeps. Assumes nothing.
+use mathlib.Core.Path.{refl}
 use mathlib.Core.Logic.{inl, inr}
-use mathlib.Core.List.{List, [], _∷_, _++_}
+use mathlib.Core.List.{List, [], _∷_}
 use Rattle.sets.specs.Lists.{In, over}
 
 module _ {S A : Type 0} (f : S → A → S) where
-  pub over-append : (s : S) (k l : List A) → over f s (k ++ l) ≡ over f (over f s k) l
-  over-append s [] l = refl
-  over-append s (x ∷ k) l = over-append (f s x) k l
-
   -- what each step keeps, all keep
   pub over-keeps : (P : S → Type 0) (l : List A) (s : S) → ((t : S) (x : A) → In x l → P t → P (f t x)) → P s → P (over f s l)
   over-keeps P [] s h p = p

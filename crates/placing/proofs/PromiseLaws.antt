@@ -12,11 +12,11 @@ use lib.ListN.{length, take-append-drop}
 use Rattle.refusals.specs.Table.{accepted}
 use Rattle.clashes.specs.Matrix.{JudgedUpTo}
 use Rattle.clashes.specs.Divisions.{groups}
+use Rattle.clashes.specs.Room.{OpenUpTo}
 use Rattle.clashes.specs.declared.Verdict.{Verdict}
 use Rattle.clashes.specs.declared.Verdict.the-variants.{Valid as valid, Many as many, Stray as stray, Itself as itself, OneSided as oneSided}
 use Rattle.clashes.proofs.MatrixLaws.{judged-up-to-is}
 use Rattle.placing.specs.Search.{State as Described, size}
-use Rattle.placing.specs.Room.{OpenUpTo}
 use Rattle.placing.specs.Promise.{numbers, searched, PromisedUpTo, answerUpTo, refused, ended, lent}
 use Rattle.placing.specs.declared.Answer.{Answer}
 use Rattle.placing.specs.declared.Answer.the-variants.{Accepted, Many, Stray, Itself, OneSided, Short, Budget}

@@ -10,9 +10,9 @@ use borrow.Author.Tests.{le-leb, lt-leb}
 use lib.Dec.{T}
 use Rattle.sets.specs.Lists.{keep, members, over}
 use Rattle.sets.proofs.TestLaws.{T→true}
+use Rattle.sets.proofs.ListLaws.{over-append}
 use Rattle.clashes.specs.Divisions.{groups}
 use Rattle.placing.specs.Search.{State, enter, size, admits, choices, put, become, unless, search}
-use Rattle.placing.proofs.OverLaws.{over-append}
 
 module _ (clash : ℕ → ℕ → Bool) where
   -- a turn: the next entry of c into group j

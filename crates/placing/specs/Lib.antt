@@ -1,5 +1,4 @@
 -- The search by placing: what it is, and what its code promises.
 pub mod Search
-pub mod Room
 pub mod Going
 pub mod Promise

@@ -22,10 +22,10 @@ use Rattle.refusals.specs.declared.Refusal.the-variants as refusal
 use Rattle.clashes.specs.Matrix.{matrix, judgeUpTo}
 use Rattle.clashes.specs.Colouring.{Chromatic}
 use Rattle.clashes.specs.Divisions.{groups, Division, clashFree}
+use Rattle.clashes.specs.Room.{OpenUpTo, RefusedUpTo}
 use Rattle.clashes.specs.declared.Verdict.{Verdict}
 use Rattle.clashes.specs.declared.Verdict.the-variants.{Valid as valid, Many as many, Stray as stray, Itself as itself, OneSided as oneSided}
 use Rattle.placing.specs.Search.{State as Described, size, placingSearch}
-use Rattle.placing.specs.Room.{OpenUpTo, RefusedUpTo}
 use Rattle.placing.specs.declared.Answer.{Answer}
 use Rattle.placing.specs.declared.Answer.the-variants.{Accepted, Many, Stray, Itself, OneSided, Short, Budget}
 use Rattle.placing.specs.declared.State.{State}

@@ -3,8 +3,8 @@ use mathlib.Core.Path.{_≡_, refl, subst}
 use borrow.Author.Needs.{needs}
 use lib.ListN.{length}
 use Rattle.clashes.specs.Matrix.{Judged}
+use Rattle.clashes.specs.Room.{OpenUpTo}
 use Rattle.clashes.specs.declared.Verdict.{Verdict}
-use Rattle.placing.specs.Room.{OpenUpTo}
 use Rattle.placing.proofs.Meets.{start-ready, promised-told}
 use Rattle.placing.proofs.fewest_by_placing.Statement.{statement}
 use Rattle.placing.proofs.fewest_by_placing.Tie as tie

@@ -8,7 +8,7 @@ use lib.ListN.{length, take, set, length-set}
 use lib.Seq.{take-suc-set}
 use Rattle.sets.proofs.ListLaws.{table-suc}
 use Rattle.clashes.specs.Divisions.{groups, alone}
-use Rattle.placing.proofs.CanonLaws.{alone-groups}
+use Rattle.clashes.proofs.DivisionLaws.{alone-groups}
 use Rattle.placing.proofs.start.Statement.{statement}
 use Rattle.placing.proofs.start.Tie as tie
 
