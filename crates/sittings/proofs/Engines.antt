@@ -9,7 +9,7 @@ use native.Mathlib.Omega.{arith}
 use lib.ListN.{length}
 use Rattle.refusals.specs.Table.{accepted}
 use Rattle.sets.specs.Set.{size}
-use Rattle.clashes.specs.Matrix.{matrix}
+use Rattle.clashes.specs.Matrix.{matrix, SoundUpTo}
 use Rattle.clashes.proofs.Meaning.{chromatic-unique}
 use Rattle.clashes.proofs.MatrixLaws.{sound-valid}
 use Rattle.bounds.specs.Names.{cliqueSet}
@@ -20,17 +20,17 @@ use Rattle.walk.specs.Promise.{numbers, PromisedUpTo}
 use Rattle.walk.specs.declared.Answer.{Answer}
 use Rattle.walk.specs.declared.Answer.the-variants.{Accepted}
 use Rattle.placing.specs.declared.Answer as engine
-use Rattle.placing.specs.declared.Answer.the-variants.{Accepted as found, Many as many, Stray as stray, Itself as itself, OneSided as oneSided, Short as short, Budget as budget}
+use Rattle.placing.specs.declared.Answer.the-variants.{Accepted as found, Many as many, Stray as stray, Itself as itself, OneSided as oneSided, Short as short, Budget as spent}
 use Rattle.placing.specs.Promise as promise
 use Rattle.placing.proofs.PromiseLaws as placing
 use Rattle.sittings.specs.Placing.{shown, PlacingPromiseUpTo}
 
 -- ---- one answer, and one state of the lent bytes
 
-pub placing-unique : (most : ℕ) (rows before : List ℕ) (paid : ℕ) (a b : Answer) (after other : List ℕ) → PlacingPromiseUpTo most rows before paid a after
-    → PlacingPromiseUpTo most rows before paid b other → (a ≡ b) × (after ≡ other)
-placing-unique most rows before paid a b after other p q =
-    let u = placing.promised-unique most rows before paid (p .engine) (q .engine) after other (p .promised) (q .promised) in
+pub placing-unique : (most : ℕ) (rows before : List ℕ) (budget : ℕ) (a b : Answer) (after other : List ℕ) → PlacingPromiseUpTo most rows before budget a after
+    → PlacingPromiseUpTo most rows before budget b other → (a ≡ b) × (after ≡ other)
+placing-unique most rows before budget a b after other p q =
+    let u = placing.promised-unique most rows before budget (p .engine) (q .engine) after other (p .promised) (q .promised) in
     (p .is ∙ ap (shown rows) (u .0) ∙ sym (q .is), u .1)
 
 -- ---- refused
@@ -43,13 +43,13 @@ number-shown rows (stray i) = refl
 number-shown rows (itself i) = refl
 number-shown rows (oneSided i) = refl
 number-shown rows short = refl
-number-shown rows (budget m) = refl
+number-shown rows (spent m) = refl
 
 -- A refused call writes nothing.
-pub refused-kept : (most : ℕ) (rows before : List ℕ) (paid : ℕ) (a : Answer) (after : List ℕ) → PlacingPromiseUpTo most rows before paid a after
+pub refused-kept : (most : ℕ) (rows before : List ℕ) (budget : ℕ) (a : Answer) (after : List ℕ) → PlacingPromiseUpTo most rows before budget a after
     → numbers a .number ≢ accepted → after ≡ before
-refused-kept most rows before paid a after p h =
-    placing.refused-kept most rows before paid (p .engine) after (p .promised)
+refused-kept most rows before budget a after p h =
+    placing.refused-kept most rows before budget (p .engine) after (p .promised)
     (λ e. h (ap (λ (x : Answer). numbers x .number) (p .is) ∙ number-shown rows (p .engine) ∙ e))
 
 -- ---- accepted
@@ -67,15 +67,20 @@ accepted-shown rows (stray i) k m l c h = let z : _≡_ {A = ℕ} 0 1 = cc in ab
 accepted-shown rows (itself i) k m l c h = let z : _≡_ {A = ℕ} 0 1 = cc in absurd (omega arith)
 accepted-shown rows (oneSided i) k m l c h = let z : _≡_ {A = ℕ} 0 1 = cc in absurd (omega arith)
 accepted-shown rows short k m l c h = let z : _≡_ {A = ℕ} 0 1 = cc in absurd (omega arith)
-accepted-shown rows (budget i) k m l c h = let z : _≡_ {A = ℕ} 0 1 = cc in absurd (omega arith)
+accepted-shown rows (spent i) k m l c h = let z : _≡_ {A = ℕ} 0 1 = cc in absurd (omega arith)
 
-module _ (most : ℕ) (rows before : List ℕ) (paid k m l c : ℕ) (after : List ℕ) (p : PlacingPromiseUpTo most rows before paid (Accepted k m l c) after) where
+-- what the engine accepted is a list
+pub found-sound : (most : ℕ) (rows before : List ℕ) (budget : ℕ) (e : engine.Answer) (after : List ℕ) (k m : ℕ)
+    → promise.PromisedUpTo most rows before budget e after → e ≡ found k m → SoundUpTo most rows
+found-sound most rows before budget e after k m p h = subst (λ (x : engine.Answer). promise.PromisedUpTo most rows before budget x after) h p .opened .sound
+
+module _ (most : ℕ) (rows before : List ℕ) (budget k m l c : ℕ) (after : List ℕ) (p : PlacingPromiseUpTo most rows before budget (Accepted k m l c) after) where
   is-found : (p .engine ≡ found k m) × (l ≡ 0) × (c ≡ ofList cliqueSet rows)
   is-found = accepted-shown rows (p .engine) k m l c (p .is)
 
   -- All that the engine promises of what it found is so of k, nodes and bytes.
-  pub found-so : promise.PromisedUpTo most rows before paid (found k m) after
-  found-so = subst (λ (e : engine.Answer). promise.PromisedUpTo most rows before paid e after) (is-found .0) (p .promised)
+  pub found-so : promise.PromisedUpTo most rows before budget (found k m) after
+  found-so = subst (λ (e : engine.Answer). promise.PromisedUpTo most rows before budget e after) (is-found .0) (p .promised)
 
   -- "every number not named is 0"
   pub no-leaves : l ≡ 0
@@ -93,7 +98,7 @@ module _ (most : ℕ) (rows before : List ℕ) (paid k m l c : ℕ) (after : Lis
 
   -- "It is proved to answer the same k as the bounded walk on every valid list whenever neither is refused", whatever buffer and budget each has. The
   -- clique is the same too. `walk` is either described walk.
-  pub engines-agree : (walk : ℕ → (ℕ → ℕ → Bool) → Described) (before′ : List ℕ) (budget j m′ l′ d : ℕ) (after′ : List ℕ)
-      → PromisedUpTo most walk rows before′ budget (Accepted j m′ l′ d) after′ → (k ≡ j) × (c ≡ d)
-  engines-agree walk before′ budget j m′ l′ d after′ q =
+  pub engines-agree : (walk : ℕ → (ℕ → ℕ → Bool) → Described) (before′ : List ℕ) (budget′ j m′ l′ d : ℕ) (after′ : List ℕ)
+      → PromisedUpTo most walk rows before′ budget′ (Accepted j m′ l′ d) after′ → (k ≡ j) × (c ≡ d)
+  engines-agree walk before′ budget′ j m′ l′ d after′ q =
       (chromatic-unique (length rows) (matrix rows) k j (found-so .fewest) (q .fewest), is-found .2 ∙ sym (q .shown))

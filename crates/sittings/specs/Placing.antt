@@ -14,7 +14,7 @@ use Rattle.walk.specs.declared.Answer.{Answer}
 use Rattle.walk.specs.declared.Answer.the-variants.{Accepted, Many, Stray, Itself, OneSided, Short, Budget}
 use Rattle.placing.specs.Promise.{PromisedUpTo}
 use Rattle.placing.specs.declared.Answer as engine
-use Rattle.placing.specs.declared.Answer.the-variants.{Accepted as found, Many as many, Stray as stray, Itself as itself, OneSided as oneSided, Short as short, Budget as budget}
+use Rattle.placing.specs.declared.Answer.the-variants.{Accepted as found, Many as many, Stray as stray, Itself as itself, OneSided as oneSided, Short as short, Budget as spent}
 
 abbrev pub shown : List ℕ → engine.Answer → Answer
 shown rows (found k m) = Accepted k m 0 (ofList cliqueSet rows)
@@ -23,12 +23,12 @@ shown rows (stray i) = Stray i
 shown rows (itself i) = Itself i
 shown rows (oneSided i) = OneSided i
 shown rows short = Short
-shown rows (budget m) = Budget m
+shown rows (spent m) = Budget m
 
-pub record PlacingPromiseUpTo (most : ℕ) (rows before : List ℕ) (paid : ℕ) (a : Answer) (after : List ℕ) : Type 0 where
+pub record PlacingPromiseUpTo (most : ℕ) (rows before : List ℕ) (budget : ℕ) (a : Answer) (after : List ℕ) : Type 0 where
   pub engine : engine.Answer
-  pub promised : PromisedUpTo most rows before paid engine after
+  pub promised : PromisedUpTo most rows before budget engine after
   pub is : a ≡ shown rows engine
 
 abbrev pub PlacingPromise : List ℕ → List ℕ → ℕ → Answer → List ℕ → Type 0
-PlacingPromise rows before paid a after = PlacingPromiseUpTo 64 rows before paid a after
+PlacingPromise rows before budget a after = PlacingPromiseUpTo 64 rows before budget a after
