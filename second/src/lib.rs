@@ -3,7 +3,6 @@
 //!
 //! - `colouring`: the fewest groups, by saturation branch and bound (no merging, no Mycielskian bound, no node count);
 //! - `matrix`: what makes lent rows a list (1 to 4), and P by listing divisions;
-//! - `placing`: document 02's search that never merges, with its node count;
 //! - `list`: reading and writing a clash text;
 //! - `sheet`: writing a sheet, checking one against a list, and the preview's part.
 
@@ -11,7 +10,6 @@ pub mod colouring;
 pub mod lines;
 pub mod list;
 pub mod matrix;
-pub mod placing;
 pub mod refusal;
 pub mod sheet;
 
