@@ -47,15 +47,15 @@ pub fewest-unique : (rows before : List ℕ) (budget : ℕ) (r q : WalkNumbers) 
 fewest-unique rows before budget r q after other x y =
     call-unique walkNumbers (x .numbers) (y .numbers) (face.fewest-unique rows before budget (x .answer) (y .answer) after other (x .promised) (y .promised))
 
-pub plain-unique : (rows before : List ℕ) (budget : ℕ) (r q : WalkNumbers) (after other : List ℕ) → WalkCall plainWalk rows before budget r after
-    → WalkCall plainWalk rows before budget q other → (r ≡ q) × (after ≡ other)
-plain-unique rows before budget r q after other x y =
-    call-unique walkNumbers (x .numbers) (y .numbers) (face.plain-unique rows before budget (x .answer) (y .answer) after other (x .promised) (y .promised))
-
 pub fewest-by-placing-unique : (rows before : List ℕ) (budget : ℕ) (r q : WalkNumbers) (after other : List ℕ) → PlacingCall rows before budget r after
     → PlacingCall rows before budget q other → (r ≡ q) × (after ≡ other)
 fewest-by-placing-unique rows before budget r q after other x y =
     call-unique walkNumbers (x .numbers) (y .numbers) (face.fewest-by-placing-unique rows before budget (x .answer) (y .answer) after other (x .promised) (y .promised))
+
+pub plain-unique : (rows before : List ℕ) (budget : ℕ) (r q : WalkNumbers) (after other : List ℕ) → WalkCall plainWalk rows before budget r after
+    → WalkCall plainWalk rows before budget q other → (r ≡ q) × (after ≡ other)
+plain-unique rows before budget r q after other x y =
+    call-unique walkNumbers (x .numbers) (y .numbers) (face.plain-unique rows before budget (x .answer) (y .answer) after other (x .promised) (y .promised))
 
 pub read-list-unique : (text old : List ℕ) (r q : ReadNumbers) (new other : List ℕ) → ReadCall text old r new → ReadCall text old q other
     → (r ≡ q) × (new ≡ other)

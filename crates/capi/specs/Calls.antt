@@ -46,14 +46,14 @@ pub record BoundCall (f s : ℕ → Graph → ℕ) (rows : List ℕ) (r : BoundN
   pub promised : Answers f s rows answer
   pub numbers : r ≡ boundNumbers answer
 
-pub record WalkCall (walk : ℕ → (ℕ → ℕ → Bool) → State) (rows before : List ℕ) (budget : ℕ) (r : WalkNumbers) (after : List ℕ) : Type 0 where
-  pub answer : Answer
-  pub promised : Promised walk rows before budget answer after
-  pub numbers : r ≡ walkNumbers answer
-
 pub record PlacingCall (rows before : List ℕ) (budget : ℕ) (r : WalkNumbers) (after : List ℕ) : Type 0 where
   pub answer : Answer
   pub promised : PlacingPromise rows before budget answer after
+  pub numbers : r ≡ walkNumbers answer
+
+pub record WalkCall (walk : ℕ → (ℕ → ℕ → Bool) → State) (rows before : List ℕ) (budget : ℕ) (r : WalkNumbers) (after : List ℕ) : Type 0 where
+  pub answer : Answer
+  pub promised : Promised walk rows before budget answer after
   pub numbers : r ≡ walkNumbers answer
 
 pub record ReadCall (text old : List ℕ) (r : ReadNumbers) (new : List ℕ) : Type 0 where

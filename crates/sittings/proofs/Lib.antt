@@ -1,4 +1,5 @@
--- Each promise leaves one answer; what a walk answers, written and checked, is accepted; and the two engines agree.
-pub mod Engines
+-- Each promise leaves one answer; and what a walk answers, written and checked, is accepted.
 pub mod Unique
+-- the two engines agree
+pub mod Engines
 pub mod OwnList

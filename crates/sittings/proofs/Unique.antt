@@ -47,13 +47,13 @@ pub fewest-unique : (rows before : List ℕ) (budget : ℕ) (a b : Answer) (afte
     → (a ≡ b) × (after ≡ other)
 fewest-unique = promised-unique 64 (boundedWalk mycielskian)
 
-pub plain-unique : (rows before : List ℕ) (budget : ℕ) (a b : Answer) (after other : List ℕ) → Promised plainWalk rows before budget a after
-    → Promised plainWalk rows before budget b other → (a ≡ b) × (after ≡ other)
-plain-unique = promised-unique 64 plainWalk
-
 pub fewest-by-placing-unique : (rows before : List ℕ) (budget : ℕ) (a b : Answer) (after other : List ℕ) → PlacingPromise rows before budget a after
     → PlacingPromise rows before budget b other → (a ≡ b) × (after ≡ other)
 fewest-by-placing-unique = placing-unique 64
+
+pub plain-unique : (rows before : List ℕ) (budget : ℕ) (a b : Answer) (after other : List ℕ) → Promised plainWalk rows before budget a after
+    → Promised plainWalk rows before budget b other → (a ≡ b) × (after ≡ other)
+plain-unique = promised-unique 64 plainWalk
 
 pub read-list-unique : (text old : List ℕ) (a b : Reading) (new other : List ℕ) → ReadPromise text old a new → ReadPromise text old b other
     → (a ≡ b) × (new ≡ other)
