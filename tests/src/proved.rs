@@ -6,7 +6,7 @@ use bench::lists::Numbers;
 use bench::{described, Walk};
 use second::list::Reading;
 use second::sheet::{self, Text};
-use second::{clique, colouring, list, matrix, placing, Refusal, Refused, BYTES};
+use second::{clique, colouring, list, matrix, Refusal, Refused, BYTES};
 
 use crate::calls::{self, Calls, Lent, FILL, PLAIN, REPEATS};
 use crate::inputs::{colours, list_of, matrix as any_matrix, sample, Sample};
@@ -49,42 +49,30 @@ fn read_numbers(answer: Result<usize, Refused>) -> [usize; 4] {
     }
 }
 
-/// Both walks of one list, buffer length and budget: numbers, colours and all memory around them. The bounded walk's answer is returned.
-fn compared(rows: &[u64], room: usize, budget: u64) -> [u64; 6] {
-    type Call = fn(&[u64], &mut [u8], u64) -> [u64; 6];
-    let same = |proved: Call, hand: Walk| {
-        let (mut lent, mut again) = (Lent::new(room, FILL), Lent::new(room, FILL));
-        let said = proved(rows, lent.part(), budget);
-        assert_eq!(said, walk_numbers(hand(rows, again.part(), budget)), "{rows:?} {room} {budget}");
-        assert_eq!(lent, again, "{rows:?} {room} {budget}");
-        if said[0] == 0 {
-            clique_is(rows, said[2], said[5]);
-        }
-        said
-    };
-    same(calls::plain, described::plain);
-    same(calls::fewest, described::fewest)
-}
+type Call = fn(&[u64], &mut [u8], u64) -> [u64; 6];
 
-/// What a search by placing should say, and write: the second program's, with the clique beside k.
-fn placed(rows: &[u64], colours: &mut [u8], budget: u64) -> [u64; 6] {
-    let found = placing::fewest(rows, colours.len(), budget);
-    if let Ok(placed) = &found {
-        colours[..rows.len()].copy_from_slice(&placed.colours);
-    }
-    walk_numbers(found.map(|placed| bench::Walked { k: placed.k as u64, nodes: placed.nodes, complete: 0, clique: clique::set(rows) }))
-}
-
-/// The search by placing of one list, buffer length and budget: numbers, colours and all memory around them. The answer is returned.
-fn compared_by_placing(rows: &[u64], room: usize, budget: u64) -> [u64; 6] {
+/// One call for one list, buffer length and budget, against one that is written by hand: numbers, colours and all memory around them. The answer is
+/// returned.
+fn same(proved: Call, hand: Walk, rows: &[u64], room: usize, budget: u64) -> [u64; 6] {
     let (mut lent, mut again) = (Lent::new(room, FILL), Lent::new(room, FILL));
-    let said = calls::fewest_by_placing(rows, lent.part(), budget);
-    assert_eq!(said, placed(rows, again.part(), budget), "{rows:?} {room} {budget}");
+    let said = proved(rows, lent.part(), budget);
+    assert_eq!(said, walk_numbers(hand(rows, again.part(), budget)), "{rows:?} {room} {budget}");
     assert_eq!(lent, again, "{rows:?} {room} {budget}");
     if said[0] == 0 {
         clique_is(rows, said[2], said[5]);
     }
     said
+}
+
+/// Both walks. The bounded walk's answer is returned.
+fn compared(rows: &[u64], room: usize, budget: u64) -> [u64; 6] {
+    same(calls::plain, described::plain, rows, room, budget);
+    same(calls::fewest, described::fewest, rows, room, budget)
+}
+
+/// The search by placing of one list, buffer length and budget, against the second program's.
+fn compared_by_placing(rows: &[u64], room: usize, budget: u64) -> [u64; 6] {
+    same(calls::fewest_by_placing, bench::placed, rows, room, budget)
 }
 
 /// Small lists by placing: the walk's k, a budget that is exact to one node, and smaller ones.
@@ -96,7 +84,7 @@ fn small_lists_by_placing() {
         let n = rows.len();
         let said = compared_by_placing(&rows, n, 100_000);
         let walked = calls::fewest(&rows, &mut vec![0; n], 100_000);
-        assert_eq!([said[..3].to_vec(), said[5..].to_vec()], [walked[..3].to_vec(), walked[5..].to_vec()], "{rows:?}");
+        assert_eq!([said[0], said[2], said[5]], [0, walked[2], walked[5]], "{rows:?}");
         assert_eq!(compared_by_placing(&rows, n + 3, said[3])[..2], [0, 0]);
         assert_eq!(compared_by_placing(&rows, n, said[3] - 1)[0], 6);
         compared_by_placing(&rows, n, drawn.below(said[3]));
