@@ -6,7 +6,7 @@ use mathlib.Core.Path.{_≡_, refl, sym, ap, subst, _∙_}
 use mathlib.Core.List.{List}
 use native.Mathlib.Omega.{arith}
 use lib.ListN.{length, take, replicate, length-replicate}
-use Rattle.refusals.specs.Table.{numberOf, told}
+use Rattle.refusals.specs.Table.{numberOf}
 use Rattle.refusals.specs.declared.Refusal.the-variants as refusal
 use Rattle.bounds.specs.Names.{mycielskian}
 use Rattle.zykov.specs.Walk.{boundedWalk}
@@ -19,15 +19,15 @@ use Rattle.lists.specs.declared.Reading.{Reading}
 use Rattle.lists.specs.declared.Reading.the-variants.{Read, Refused}
 use Rattle.sheet_texts.specs.Sheet.{sheetText}
 use Rattle.sheet_texts.proofs.OwnList.{read-up-to-again, rows-are, rows-count}
-use Rattle.answers.specs.Printed.{budget, refusedText, rowsText, printed, Writes, AnswerPromise, LongPromise}
+use Rattle.answers.specs.Printed.{budget, refusedText, toldText, rowsText, printed, Writes, AnswerPromise, LongPromise}
 use Rattle.answers.specs.declared.Printed.{Printed}
 use Rattle.answers.proofs.Laws.{printed-read, printed-refused, rows-accepted, rows-spent}
 
 -- the text is refused
-pub refusal-printed : (text lent : List ℕ) (f : Fault) (k : ℕ) (rows : List ℕ) → length lent ≡ 64 → ReadPromise text lent (Refused f k) rows
-    → printed text ≡ refusedText (numberOf (refusalOf f)) (told (refusalOf f) k .line)
-refusal-printed text lent f k rows z x =
-    printed-refused text (readOf text 64) refl f k (sym (subst (λ (room : ℕ). Refused f k ≡ readOf text room .answer) z (x .answer)))
+pub refusal-printed : (text lent : List ℕ) (f : Fault) (k c : ℕ) (rows : List ℕ) → length lent ≡ 64 → ReadPromise text lent (Refused f k c) rows
+    → printed text ≡ toldText (refusalOf f) k c
+refusal-printed text lent f k c rows z x =
+    printed-refused text (readOf text 64) refl f k c (sym (subst (λ (room : ℕ). Refused f k c ≡ readOf text room .answer) z (x .answer)))
 
 -- the text is read
 module _ (text lent : List ℕ) (n : ℕ) (rows : List ℕ) (x : ReadPromise text lent (Read n) rows) where
@@ -43,7 +43,7 @@ module _ (text lent : List ℕ) (n : ℕ) (rows : List ℕ) (x : ReadPromise tex
       list-printed ∙ rows-accepted (take n rows) before k m l after p ∙ ap (λ (i : ℕ). sheetText (take i after)) (rows-count text lent n rows x)
 
   pub spent-printed : (before : List ℕ) (m : ℕ) (after : List ℕ) → Promised (boundedWalk mycielskian) (take n rows) before budget (Budget m) after
-      → printed text ≡ refusedText (numberOf refusal.Budget) 0
+      → printed text ≡ refusedText (numberOf refusal.Budget) 0 0
   spent-printed before m after p = list-printed ∙ rows-spent (take n rows) before (p .0 .more)
 
 -- ---- one answer

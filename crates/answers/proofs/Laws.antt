@@ -1,5 +1,5 @@
--- What is printed for a text, by the steps of the code: a composed text is written where it fits, every number and line of a refusal has at most seven
--- digits, and a walk over the rows of a list is accepted or refused for effort. Assumes nothing.
+-- What is printed for a text, by the steps of the code: a composed text is written where it fits, every number, line and column of a refusal has at most
+-- seven digits, and a walk over the rows of a list is accepted or refused for effort. Assumes nothing.
 use Prim.Native.Nat.{ℕ, zero, suc, _+_, _≤_, _<_}
 use mathlib.Core.Path.{_≡_, refl, sym, ap, subst, _∙_}
 use mathlib.Core.Logic.{_⊎_, inl, inr, _≢_}
@@ -9,15 +9,18 @@ use native.Mathlib.Decide.{decLt}
 use native.Mathlib.Omega.{arith}
 use types.Run.{OneOf, miss}
 use denote.Enum.Declared.{tagOf}
-use borrow.Author.Tests.{le-leb, lt-leb, leb-true, leb-false}
-use lib.Dec.{leb, eqb, ltb}
+use borrow.Author.Tests.{le-leb, lt-leb, leb-true, leb-false, ne-eqb}
+use lib.Dec.{T, leb, eqb, ltb}
 use lib.ListN.{length, take, length-append}
-use Rattle.refusals.specs.Table.{Beside, nothing, aRow, theNodes, aLine, anIndex, entry, numberOf, with, told}
+use Rattle.refusals.specs.Table.{Beside, nothing, aRow, theNodes, aLine, aSpot, anIndex, entry, numberOf, with, told, toldAt}
 use Rattle.refusals.specs.declared.Refusal.{Refusal}
 use Rattle.refusals.specs.declared.Refusal.the-variants as refusal
-use Rattle.refusals.proofs.TableLaws.{table-rule, told-number}
+use Rattle.refusals.proofs.TableLaws.{table-rule}
 use Rattle.lines.specs.Text.{Text, done, unended, ended, linesOf, feed, lineCount, Within}
 use Rattle.lines.specs.Numeral.{numeral, oneLine, over, Put}
+use Rattle.lines.proofs.Basics.{cond-cases}
+use Rattle.lines.proofs.Back.{numeral-length}
+use Rattle.lines.proofs.Writing.{one-length}
 use Rattle.clashes.specs.Matrix.{matrix, Sound}
 use Rattle.bounds.specs.Names.{mycielskian}
 use Rattle.zykov.specs.Walk.{State, boundedWalk}
@@ -30,14 +33,16 @@ use Rattle.lists.specs.Read.{mostEntries, longestText, noRowsUpTo, readFromUpTo
 use Rattle.lists.specs.Promise.{refusalOf}
 use Rattle.lists.specs.declared.Found.{Found}
 use Rattle.lists.specs.declared.Fault.{Fault}
-use Rattle.lists.specs.declared.Fault.the-variants.{Line, Headless, Second, Size, Vertex, Loop, Count, Room, Long}
+use Rattle.lists.specs.declared.Fault.the-variants.{Line, Headless, Second, Size, Vertex, Loop, Count, Room, Long, Digit, Space, Unended}
 use Rattle.lists.specs.declared.Reading.{Reading}
 use Rattle.lists.specs.declared.Reading.the-variants.{Read, Refused}
+use Rattle.lists.specs.Expect.{ofShape}
+use Rattle.lists.proofs.Widths.{read-column}
 use Rattle.lists.proofs.Lines.{Named, Names, read-names}
 use Rattle.lists.proofs.ReadSound.{read-sound}
 use Rattle.lists.proofs.Fold.{Bounded, read-up-to-few}
 use Rattle.sheet_texts.specs.Sheet.{sheetText}
-use Rattle.answers.specs.Printed.{budget, refusedText, rowsText, readText, printed, Writes}
+use Rattle.answers.specs.Printed.{budget, refusedWord, lineWord, columnWord, lineText, spotText, toldText, placeText, refusedText, rowsText, readText, printed, Writes}
 use Rattle.answers.specs.declared.Printed.{Printed}
 use Rattle.answers.specs.declared.Printed.the-variants.{Length, Full}
 
@@ -76,6 +81,9 @@ lines-most (b ∷ s) = feed-most (eqb b 10) b (linesOf s) (length s) (lines-most
 named-most : (t : Text) (f : Fault) (k : ℕ) → Named false t f k → k ≤ lineCount t + 1
 named-most t Long k h = omega arith
 named-most t Line k h = omega (arith, h .1)
+named-most t Digit k h = omega (arith, h .1)
+named-most t Space k h = omega (arith, h .1)
+named-most t Unended k h = omega (arith, h .1)
 named-most t Headless k h = go (h .1)
   where
     go : {A : Type 0} → (Within t k × A) ⊎ (k ≡ lineCount t + 1) → k ≤ lineCount t + 1
@@ -91,15 +99,16 @@ named-most t Count k h = omega arith
 line-told : (r : Refusal) (k : ℕ) → told r k .line ≤ k
 line-told r k = go (entry r .beside)
   where
-    go : (b : Beside) → with (entry r .number) b k .line ≤ k
+    go : (b : Beside) → with (entry r .number) b k 0 .line ≤ k
     go nothing = omega arith
     go aRow = omega arith
     go theNodes = omega arith
     go aLine = omega arith
+    go aSpot = omega arith
     go anIndex = omega arith
 
-pub line-small : (s : List ℕ) (room : ℕ) (f : Fault) (k : ℕ) (r : Refusal) → readOf s room .answer ≡ Refused f k → told r k .line < 10000000
-line-small s room f k r e = go (decLt longestText (length s))
+pub line-small : (s : List ℕ) (room : ℕ) (f : Fault) (k c : ℕ) (r : Refusal) → readOf s room .answer ≡ Refused f k c → told r k .line < 10000000
+line-small s room f k c r e = go (decLt longestText (length s))
   where
     names : Named false (linesOf s) f k
     names = subst (Names (linesOf s)) e (read-names mostEntries longestText s room)
@@ -107,10 +116,67 @@ line-small s room f k r e = go (decLt longestText (length s))
     -- 18 names no line
     go : Dec (longestText < length s) → told r k .line < 10000000
     go (yes h) =
-        let q : Refused Long 0 ≡ Refused f k = sym (ap (λ (b : Bool). cond b (readFromUpTo mostEntries (linesOf s) room 1 start (noRowsUpTo mostEntries)) (refusedUpTo mostEntries Long 0) .answer) (lt-leb (length s) longestText h)) ∙ e in
+        let q : Refused Long 0 0 ≡ Refused f k c = sym (ap (λ (b : Bool). cond b (readFromUpTo mostEntries (linesOf s) room 1 start (noRowsUpTo mostEntries)) (refusedUpTo mostEntries Long 0) .answer) (lt-leb (length s) longestText h)) ∙ e in
         let z : 0 ≡ k = cc in
         omega (arith, line-told r k)
     go (no h) = omega (arith, line-told r k, named-most (linesOf s) f k names, lines-most s)
+
+column-told : (r : Refusal) (c : ℕ) → toldAt r 0 c .column ≤ c
+column-told r c = go (entry r .beside)
+  where
+    go : (b : Beside) → with (entry r .number) b 0 c .column ≤ c
+    go nothing = omega arith
+    go aRow = omega arith
+    go theNodes = omega arith
+    go aLine = omega arith
+    go aSpot = omega arith
+    go anIndex = omega arith
+
+-- no line has more than 65,536 bytes
+pub column-small : (s : List ℕ) (room : ℕ) (f : Fault) (k c : ℕ) (r : Refusal) → readOf s room .answer ≡ Refused f k c → toldAt r 0 c .column < 10000000
+column-small s room f k c r e = go (decLt longestText (length s))
+  where
+    go : Dec (longestText < length s) → toldAt r 0 c .column < 10000000
+    go (yes h) =
+        let q : Refused Long 0 0 ≡ Refused f k c =
+        sym (ap (λ (b : Bool). cond b (readFromUpTo mostEntries (linesOf s) room 1 start (noRowsUpTo mostEntries)) (refusedUpTo mostEntries Long 0) .answer)
+        (lt-leb (length s) longestText h)) ∙ e in
+        let z : 0 ≡ c = cc in
+        omega (arith, column-told r c)
+    go (no h) = omega (arith, column-told r c, read-column mostEntries longestText s room f k c e .0)
+
+-- ---- the line of a refusal
+
+pub place-none : (l c : ℕ) → c ≡ 0 → placeText l c ≡ lineText l
+place-none l c e = rw e
+
+pub place-some : (l c : ℕ) → (c ≡ 0 → ⊥) → placeText l c ≡ spotText l c
+place-some l c h = rw (ne-eqb c 0 h)
+
+pub place-length : (l c : ℕ) → length (placeText l c) ≤ 29
+place-length l c =
+    cond-cases (λ (x : List ℕ). length x ≤ 29) (eqb c 0) (lineText l) (spotText l c)
+    (λ _. omega (arith, one-length lineWord l, numeral-length l .1))
+    (λ _. omega (arith, length-append lineWord (numeral l ++ oneLine columnWord c), length-append (numeral l) (oneLine columnWord c), one-length columnWord c, numeral-length l .1, numeral-length c .1))
+
+spot-told : (r k c : ℕ) → 1 ≤ c → refusedWord ++ (numeral r ++ spotText k c) ≡ refusedText r k c
+spot-told r k c h = ap (λ (x : List ℕ). refusedWord ++ (numeral r ++ x)) (sym (place-some k c (λ e. omega arith)))
+
+-- a fault of shape has a column, and no other refusal of a text
+text-told : (f : Fault) (k c : ℕ) → (T (ofShape f) → 1 ≤ c)
+    → toldText (refusalOf f) k c ≡ refusedText (numberOf (refusalOf f)) (told (refusalOf f) k .line) (toldAt (refusalOf f) 0 c .column)
+text-told Line k c h = spot-told (numberOf (refusalOf Line)) k c (h tt)
+text-told Digit k c h = spot-told (numberOf (refusalOf Digit)) k c (h tt)
+text-told Space k c h = spot-told (numberOf (refusalOf Space)) k c (h tt)
+text-told Unended k c h = spot-told (numberOf (refusalOf Unended)) k c (h tt)
+text-told Headless k c h = refl
+text-told Second k c h = refl
+text-told Size k c h = refl
+text-told Vertex k c h = refl
+text-told Loop k c h = refl
+text-told Count k c h = refl
+text-told Room k c h = refl
+text-told Long k c h = refl
 
 -- ---- what is printed for a text
 
@@ -122,9 +188,15 @@ module _ (s : List ℕ) (x : Found) (e : x ≡ readOf s 64) where
   pub printed-read : (n : ℕ) → x .answer ≡ Read n → printed s ≡ rowsText (take n (x .rows))
   printed-read n h = found-is ∙ ap (λ (a : Reading). readText a (x .rows)) h
 
-  pub printed-refused : (f : Fault) (k : ℕ) → x .answer ≡ Refused f k → printed s ≡ refusedText (numberOf (refusalOf f)) (told (refusalOf f) k .line)
-  printed-refused f k h =
-      found-is ∙ ap (λ (a : Reading). readText a (x .rows)) h ∙ ap (λ (n : ℕ). refusedText n (told (refusalOf f) k .line)) (told-number (refusalOf f) k)
+  pub printed-refused : (f : Fault) (k c : ℕ) → x .answer ≡ Refused f k c → printed s ≡ toldText (refusalOf f) k c
+  printed-refused f k c h = found-is ∙ ap (λ (a : Reading). readText a (x .rows)) h
+
+  -- by its numbers
+  pub printed-numbers : (f : Fault) (k c : ℕ) → x .answer ≡ Refused f k c
+      → printed s ≡ refusedText (numberOf (refusalOf f)) (told (refusalOf f) k .line) (toldAt (refusalOf f) 0 c .column)
+  printed-numbers f k c h =
+      printed-refused f k c h
+      ∙ text-told f k c (read-column mostEntries longestText s 64 f k c (ap (λ (f : Found). f .answer) (sym e) ∙ h) .1)
 
   pub list-sound : (n : ℕ) → x .answer ≡ Read n → Sound (take n (x .rows))
   list-sound n h = subst (λ (f : Found). Sound (take n (f .rows))) (sym e) (read-sound s 64 n (ap (λ (f : Found). f .answer) (sym e) ∙ h))
@@ -133,7 +205,7 @@ module _ (s : List ℕ) (x : Found) (e : x ≡ readOf s 64) where
   list-few n h = subst (Bounded 64) (ap (λ (f : Found). f .answer) (sym e) ∙ h) (read-up-to-few mostEntries longestText s 64)
 
 -- 18 is printed alike for each text that is too long
-pub printed-long : (s : List ℕ) → longestText < length s → printed s ≡ refusedText (numberOf refusal.Long) 0
+pub printed-long : (s : List ℕ) → longestText < length s → printed s ≡ refusedText (numberOf refusal.Long) 0 0
 unfolding printed
 printed-long s h =
     ap (λ (b : Bool). let f = cond b (readFromUpTo mostEntries (linesOf s) 64 1 start (noRowsUpTo mostEntries)) (refusedUpTo mostEntries Long 0) in readText (f .answer) (f .rows))
@@ -146,7 +218,7 @@ module _ (rows before : List ℕ) where
   w = boundedWalk mycielskian (length rows) (matrix rows)
 
   abbrev spent : List ℕ
-  spent = refusedText (numberOf refusal.Budget) 0
+  spent = refusedText (numberOf refusal.Budget) 0 0
 
   pub rows-accepted : (k m l : ℕ) (after : List ℕ) → Promised (boundedWalk mycielskian) rows before budget (Accepted k m l) after
       → rowsText rows ≡ sheetText (take (length rows) after)

@@ -2,15 +2,17 @@
 use lists::Reading;
 use lists::refusal_of;
 use refusals::Refusal;
+use refusals::column;
 use refusals::line;
 use refusals::number;
 use sheet_texts::Composed;
 use sheet_texts::compose;
 use walk::Answer;
-ghost use Prim.Native.Nat.{_≤_, _<_};
+ghost use Prim.Native.Nat.{_+_, _≤_, _<_};
 ghost use lib.ListN.{length};
 ghost use Rattle.clashes.specs.Matrix.{Sound};
-ghost use Rattle.answers.specs.Printed.{refusedText, rowsText, printed, IsText, Fitted, AnswerPromise, LongPromise};
+ghost use Rattle.lines.specs.Numeral.{Put};
+ghost use Rattle.answers.specs.Printed.{placeText, refusedText, rowsText, printed, IsText, Fitted, AnswerPromise, LongPromise};
 
 // The whole text was written, with its length; or it does not fit, which is document 01's 19.
 pub enum Printed {
@@ -21,15 +23,28 @@ pub enum Printed {
 // The nodes that the walk may enter.
 const BUDGET: u64 = 1000000;
 
-// "refused R line L" and a line feed.
-fn refused(r: usize, l: usize) -> Composed
-    requires { ⌜ (r < 10000000) × (l < 10000000) ⌝ }
-    ensures { λ t. ⌜ IsText (refusedText r l) t ⌝ }
+// " line L" or, where there is a column, " line L column C", and a line feed.
+fn put_place(out: &mut [u8], at: usize, l: usize, c: usize) -> usize
+    requires { ⌜ ((l < 10000000) × (c < 10000000)) × (at + length (placeText l c) ≤ length (now out)) ⌝ }
+    ensures { λ r. ⌜ Put (now (out .entry)) at (placeText l c) (now (out .exit)) r ⌝ }
+{
+    if c == 0 {
+        return lines::put_one(out, at, b" line ", l);
+    }
+    let a = lines::put_word(out, at, b" line ");
+    let b = lines::put_number(out, a, l);
+    lines::put_one(out, b, b" column ", c)
+}
+
+// "refused R line L" and a line feed; with " column C" before it where there is a column.
+fn refused(r: usize, l: usize, c: usize) -> Composed
+    requires { ⌜ (r < 10000000) × (l < 10000000) × (c < 10000000) ⌝ }
+    ensures { λ t. ⌜ IsText (refusedText r l c) t ⌝ }
 {
     let mut bytes = [0u8; 768];
     let a = lines::put_word(&mut bytes, 0, b"refused ");
     let b = lines::put_number(&mut bytes, a, r);
-    let length = lines::put_one(&mut bytes, b, b" line ", l);
+    let length = put_place(&mut bytes, b, l, c);
     Composed { bytes, length }
 }
 
@@ -44,7 +59,7 @@ fn of_rows(rows: &[u64]) -> Composed
         let n = rows.len();
         return compose(&colours[..n], k);
     }
-    refused(number(Refusal::Budget), 0)
+    refused(number(Refusal::Budget), 0, 0)
 }
 
 // What is printed for a text.
@@ -56,9 +71,9 @@ fn of_text(text: &[u8]) -> Composed
     let rows = found.rows;
     match answer {
         Reading::Read(n) => of_rows(&rows[..n]),
-        Reading::Refused(why, at) => {
+        Reading::Refused(why, at, spot) => {
             let r = refusal_of(why);
-            refused(number(r), line(r, at))
+            refused(number(r), line(r, at), column(r, spot))
         }
     }
 }
@@ -87,5 +102,5 @@ pub fn answer(text: &[u8], out: &mut [u8]) -> Printed
 pub fn answer_long(out: &mut [u8]) -> Printed
     ensures { λ r. ⌜ LongPromise (now (out .entry)) r (now (out .exit)) ⌝ }
 {
-    fit(refused(number(Refusal::Long), 0), out)
+    fit(refused(number(Refusal::Long), 0, 0), out)
 }

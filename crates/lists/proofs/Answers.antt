@@ -14,15 +14,15 @@ use Rattle.lists.proofs.Fold.{Bounded, read-up-to-few, read-up-to-fits}
 
 abbrev pub stored : Reading → ℕ
 stored (Read n) = n
-stored (Refused f k) = 0
+stored (Refused f k c) = 0
 
 stored-written : (a : Reading) (g old : List ℕ) → written a g old ≡ take (stored a) g ++ drop (stored a) old
 stored-written (Read n) g old = refl
-stored-written (Refused f k) g old = refl
+stored-written (Refused f k c) g old = refl
 
 stored-bounded : (k : ℕ) (a : Reading) → Bounded k a → stored a ≤ k
 stored-bounded k (Read n) h = h
-stored-bounded k (Refused f l) h = zero-le
+stored-bounded k (Refused f l c) h = zero-le
 
 module _ (most longest : ℕ) (s : List ℕ) (old : List ℕ) (f : Found) (e : f ≡ readUpTo most longest s (length old)) (n : ℕ) (q : n ≡ stored (f .answer)) where
   told : readUpTo most longest s (length old) .answer ≡ f .answer

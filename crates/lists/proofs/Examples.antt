@@ -4,6 +4,7 @@ use mathlib.Core.Path.{_≡_, refl}
 use mathlib.Core.List.{List, [], _∷_}
 use lib.ListN.{take}
 use Rattle.lines.specs.Numeral.{numeral}
+use Rattle.lists.specs.Expect.{spotOf}
 use Rattle.lists.specs.Read.{readOf}
 use Rattle.lists.specs.Edges.{edges}
 use Rattle.lists.specs.Write.{textOf}
@@ -11,39 +12,43 @@ use Rattle.lists.specs.Promise.{readNumbers}
 use Rattle.lists.specs.declared.Reading.the-variants.{Read}
 
 -- the empty text is 11 at line 1
-empty-text : readNumbers (readOf ([]) 64 .answer) ≡ record { number = 11; place = 1; size = 0 }
+empty-text : readNumbers (readOf ([]) 64 .answer) ≡ record { number = 11; place = 1; column = 0; size = 0 }
 empty-text = refl
 
 -- "p edge 0 0" with its line feed is a list
-no-entries : readNumbers (readOf (112 ∷ 32 ∷ 101 ∷ 100 ∷ 103 ∷ 101 ∷ 32 ∷ 48 ∷ 32 ∷ 48 ∷ 10 ∷ []) 0 .answer) ≡ record { number = 0; place = 0; size = 0 }
+no-entries : readNumbers (readOf (112 ∷ 32 ∷ 101 ∷ 100 ∷ 103 ∷ 101 ∷ 32 ∷ 48 ∷ 32 ∷ 48 ∷ 10 ∷ []) 0 .answer) ≡ record { number = 0; place = 0; column = 0; size = 0 }
 no-entries = refl
 
 -- a lone line feed is one empty line
-lone-feed : readNumbers (readOf (10 ∷ []) 64 .answer) ≡ record { number = 10; place = 1; size = 0 }
+lone-feed : readNumbers (readOf (10 ∷ []) 64 .answer) ≡ record { number = 10; place = 1; column = 1; size = 0 }
+unfolding spotOf
 lone-feed = refl
 
 -- the last line lacks its line feed
-unended-last : readNumbers (readOf (99 ∷ 32 ∷ 120 ∷ 10 ∷ 112 ∷ 32 ∷ 101 ∷ 100 ∷ 103 ∷ 101 ∷ 32 ∷ 49 ∷ 32 ∷ 48 ∷ []) 64 .answer) ≡ record { number = 10; place = 2; size = 0 }
+unended-last : readNumbers (readOf (99 ∷ 32 ∷ 120 ∷ 10 ∷ 112 ∷ 32 ∷ 101 ∷ 100 ∷ 103 ∷ 101 ∷ 32 ∷ 49 ∷ 32 ∷ 48 ∷ []) 64 .answer) ≡ record { number = 23; place = 2; column = 11; size = 0 }
+unfolding spotOf
 unended-last = refl
 
 -- a number with a leading zero
-leading-zero : readNumbers (readOf (112 ∷ 32 ∷ 101 ∷ 100 ∷ 103 ∷ 101 ∷ 32 ∷ 51 ∷ 32 ∷ 49 ∷ 10 ∷ 101 ∷ 32 ∷ 48 ∷ 49 ∷ 32 ∷ 51 ∷ 10 ∷ []) 64 .answer) ≡ record { number = 10; place = 2; size = 0 }
+leading-zero : readNumbers (readOf (112 ∷ 32 ∷ 101 ∷ 100 ∷ 103 ∷ 101 ∷ 32 ∷ 51 ∷ 32 ∷ 49 ∷ 10 ∷ 101 ∷ 32 ∷ 48 ∷ 49 ∷ 32 ∷ 51 ∷ 10 ∷ []) 64 .answer) ≡ record { number = 21; place = 2; column = 4; size = 0 }
+unfolding spotOf
 leading-zero = refl
 
--- eight digits; seven are a number, and then 65 entries are too many
-eight-digits : readNumbers (readOf (112 ∷ 32 ∷ 101 ∷ 100 ∷ 103 ∷ 101 ∷ 32 ∷ 51 ∷ 32 ∷ 48 ∷ 48 ∷ 48 ∷ 48 ∷ 48 ∷ 48 ∷ 48 ∷ 49 ∷ 10 ∷ []) 64 .answer) ≡ record { number = 10; place = 1; size = 0 }
+-- eight digits, of which the first is a zero
+eight-digits : readNumbers (readOf (112 ∷ 32 ∷ 101 ∷ 100 ∷ 103 ∷ 101 ∷ 32 ∷ 51 ∷ 32 ∷ 48 ∷ 48 ∷ 48 ∷ 48 ∷ 48 ∷ 48 ∷ 48 ∷ 49 ∷ 10 ∷ []) 64 .answer) ≡ record { number = 21; place = 1; column = 11; size = 0 }
+unfolding spotOf
 eight-digits = refl
 
 -- 65 entries
-sixty-five : readNumbers (readOf (112 ∷ 32 ∷ 101 ∷ 100 ∷ 103 ∷ 101 ∷ 32 ∷ 54 ∷ 53 ∷ 32 ∷ 48 ∷ 10 ∷ []) 64 .answer) ≡ record { number = 13; place = 1; size = 0 }
+sixty-five : readNumbers (readOf (112 ∷ 32 ∷ 101 ∷ 100 ∷ 103 ∷ 101 ∷ 32 ∷ 54 ∷ 53 ∷ 32 ∷ 48 ∷ 10 ∷ []) 64 .answer) ≡ record { number = 13; place = 1; column = 0; size = 0 }
 sixty-five = refl
 
 -- fewer lent rows than n, found at the p line though a later line is faulty
-few-rows : readNumbers (readOf (112 ∷ 32 ∷ 101 ∷ 100 ∷ 103 ∷ 101 ∷ 32 ∷ 51 ∷ 32 ∷ 48 ∷ 10 ∷ 120 ∷ 10 ∷ []) 2 .answer) ≡ record { number = 17; place = 1; size = 0 }
+few-rows : readNumbers (readOf (112 ∷ 32 ∷ 101 ∷ 100 ∷ 103 ∷ 101 ∷ 32 ∷ 51 ∷ 32 ∷ 48 ∷ 10 ∷ 120 ∷ 10 ∷ []) 2 .answer) ≡ record { number = 17; place = 1; column = 0; size = 0 }
 few-rows = refl
 
 -- 11 stands before 14
-headless-first : readNumbers (readOf (101 ∷ 32 ∷ 57 ∷ 32 ∷ 57 ∷ 10 ∷ []) 64 .answer) ≡ record { number = 11; place = 1; size = 0 }
+headless-first : readNumbers (readOf (101 ∷ 32 ∷ 57 ∷ 32 ∷ 57 ∷ 10 ∷ []) 64 .answer) ≡ record { number = 11; place = 1; column = 0; size = 0 }
 headless-first = refl
 
 -- one e line more than stated, found at the end
@@ -52,7 +57,7 @@ too-many-edges : readNumbers (readOf (
     ∷ 101 ∷ 32 ∷ 49 ∷ 32 ∷ 51 ∷ 10
     ∷ 101 ∷ 32 ∷ 51 ∷ 32 ∷ 49 ∷ 10
     ∷ []) 64 .answer)
-    ≡ record { number = 16; place = 4; size = 0 }
+    ≡ record { number = 16; place = 4; column = 0; size = 0 }
 too-many-edges = refl
 
 -- a repeated edge, either way round, is counted
@@ -61,7 +66,7 @@ both-ways-round : readNumbers (readOf (
     ∷ 101 ∷ 32 ∷ 49 ∷ 32 ∷ 51 ∷ 10
     ∷ 101 ∷ 32 ∷ 51 ∷ 32 ∷ 49 ∷ 10
     ∷ []) 64 .answer)
-    ≡ record { number = 0; place = 0; size = 3 }
+    ≡ record { number = 0; place = 0; column = 0; size = 3 }
 both-ways-round = refl
 
 -- document 01's five-cycle, a line of the text to a line here

@@ -13,16 +13,18 @@ use Rattle.lines.specs.Text.{Text, done, unended, ended, linesOf, lineEnd}
 use Rattle.lines.proofs.Basics.{cond-cases}
 use Rattle.lines.proofs.Lines.{line-ended, line-unended}
 use Rattle.lists.specs.Shape.{shapeOf}
-use Rattle.lists.specs.Read.{noRowsUpTo, refusedUpTo, inside, edgeOf, stepUpTo, mark, join, finishUpTo, afterUpTo, readFromUpTo, start, readUpTo, mostEntries, longestText, readOf}
+use Rattle.lists.specs.Expect.{spotOf}
+use Rattle.lists.specs.Read.{noRowsUpTo, refusedAtUpTo, refusedUpTo, inside, edgeOf, stepUpTo, mark, join, finishUpTo, afterUpTo, readFromUpTo, start, readUpTo, mostEntries, longestText, readOf}
 use Rattle.lists.specs.declared.Shape.{Shape}
 use Rattle.lists.specs.declared.Shape.the-variants.{Comment, P, E, Bad}
-use Rattle.lists.specs.declared.Fault.the-variants.{Line, Long}
+use Rattle.lists.specs.declared.Fault.the-variants.{Long}
+use Rattle.lists.specs.declared.Spot.{Spot}
 use Rattle.lists.specs.declared.Head.{Head}
 use Rattle.lists.specs.declared.Reading.{Reading}
 use Rattle.lists.specs.declared.Reading.the-variants.{Read, Refused}
 use Rattle.lists.specs.declared.Found.{Found}
 use Rattle.lists.specs.declared.Step.{Step}
-use Rattle.lists.specs.declared.Step.the-variants.{Stop, Go, Edge}
+use Rattle.lists.specs.declared.Step.the-variants.{StopAt, Stop, Go, Edge}
 
 -- ---- a step keeps n small and its ends within n
 
@@ -35,6 +37,7 @@ inside-is n u = go (leb 1 u) refl
 
 -- what a step leaves, where k is the most that n may be and c the count before
 abbrev pub Kept : ℕ → ℕ → Step → Type 0
+Kept k c (StopAt p) = Unit {0}
 Kept k c (Stop f) = Unit {0}
 Kept k c (Go g) = (g .n ≤ k) × (g .count ≤ c)
 Kept k c (Edge g i j) = (g .n ≤ k) × (g .count ≤ c + 1) × (i < g .n) × (j < g .n)
@@ -51,14 +54,15 @@ edge-kept h k u v a =
 
 module _ (most : ℕ) where
   -- both bounds of n: the most entries, and the room
-  pub step-kept : (h : Head) (room : ℕ) (s : Shape) (k : ℕ) → ((n : ℕ) → n ≤ most → n ≤ room → n ≤ k) → h .n ≤ k → Kept k (h .count) (stepUpTo most h room s)
-  step-kept h room Bad k f a = tt
-  step-kept h room Comment k f a = (a, omega arith)
-  step-kept h room (P n m) k f a =
+  pub step-kept : (h : Head) (room : ℕ) (p : Spot) (s : Shape) (k : ℕ) → ((n : ℕ) → n ≤ most → n ≤ room → n ≤ k) → h .n ≤ k
+      → Kept k (h .count) (stepUpTo most h room p s)
+  step-kept h room p Bad k f a = tt
+  step-kept h room p Comment k f a = (a, omega arith)
+  step-kept h room p (P n m) k f a =
       let K = Kept k (h .count) in
       cond-cases K (h .seen) _ _ (λ _. tt)
       (λ _. cond-cases K (leb n most) _ _ (λ e. cond-cases K (leb n room) _ _ (λ r. (f n (leb-true n most e) (leb-true n room r), omega arith)) (λ _. tt)) (λ _. tt))
-  step-kept h room (E u v) k f a = cond-cases (Kept k (h .count)) (h .seen) _ _ (λ _. edge-kept h k u v a) (λ _. tt)
+  step-kept h room p (E u v) k f a = cond-cases (Kept k (h .count)) (h .seen) _ _ (λ _. edge-kept h k u v a) (λ _. tt)
 
 -- ---- the rows
 
@@ -75,7 +79,7 @@ bit-is j h = rw one-mul (mod-eq-of-lt (pow-lt h))
 
 module _ (most : ℕ) where
   pub read-halts : (s : List ℕ) (room a e k : ℕ) (h : Head) (g : List ℕ) → e ≡ lineEnd s a → a < length s → length s ≤ e
-      → readFromUpTo most (linesOf (drop a s)) room k h g ≡ refusedUpTo most Line k
+      → readFromUpTo most (linesOf (drop a s)) room k h g ≡ refusedAtUpTo most (spotOf (drop a s)) k
   read-halts s room a e k h g q i l = ap (λ (t : Text). readFromUpTo most t room k h g) (line-unended s a e q i l)
 
   pub read-ends : (s : List ℕ) (room a k : ℕ) (h : Head) (g : List ℕ) → length s ≤ a → readFromUpTo most (linesOf (drop a s)) room k h g ≡ finishUpTo most h g k
@@ -83,7 +87,11 @@ module _ (most : ℕ) where
 
   -- a line that is ended at e, and the step that it makes
   module _ (s : List ℕ) (room a e k : ℕ) (h : Head) (g : List ℕ) (q : e ≡ lineEnd s a) (l : e < length s) where
-    pub turn : (st : Step) → stepUpTo most h room (shapeOf (take (e - a) (drop a s))) ≡ st
+    -- what the line does
+    abbrev pub does : Step
+    does = stepUpTo most h room (spotOf (take (e - a) (drop a s))) (shapeOf (take (e - a) (drop a s)))
+
+    pub turn : (st : Step) → does ≡ st
         → readFromUpTo most (linesOf (drop a s)) room k h g ≡ afterUpTo most st g k (readFromUpTo most (linesOf (drop (e + 1) s)) room (k + 1))
     turn st p =
         ap (λ (t : Text). readFromUpTo most t room k h g) (line-ended s a e q l)
@@ -97,18 +105,18 @@ module _ (most : ℕ) where
       pub same : readFromUpTo most (linesOf (drop (e + 1) s)) room (k + 1) h′ g′ ≡ readFromUpTo most (linesOf (drop a s)) room k h g
 
     module _ (z : length g ≡ most) (few : h .n ≤ most) where
-      keeps : (st : Step) → stepUpTo most h room (shapeOf (take (e - a) (drop a s))) ≡ st → Kept most (h .count) st
-      keeps st p = subst (Kept most (h .count)) p (step-kept most h room (shapeOf (take (e - a) (drop a s))) most (λ n x y. x) few)
+      keeps : (st : Step) → does ≡ st → Kept most (h .count) st
+      keeps st p = subst (Kept most (h .count)) p (step-kept most h room (spotOf (take (e - a) (drop a s))) (shapeOf (take (e - a) (drop a s))) most (λ n x y. x) few)
 
-      pub ends-below : (x : Head) (i j : ℕ) → stepUpTo most h room (shapeOf (take (e - a) (drop a s))) ≡ Edge x i j → (i < most) × (j < most)
+      pub ends-below : (x : Head) (i j : ℕ) → does ≡ Edge x i j → (i < most) × (j < most)
       ends-below x i j p = let d = keeps (Edge x i j) p in (omega (arith, d .0, d .2), omega (arith, d .0, d .3))
 
-      pub turned-go : (x : Head) → stepUpTo most h room (shapeOf (take (e - a) (drop a s))) ≡ Go x → (h′ : Head) (g′ : List ℕ) → g′ ≡ g → h′ ≡ x → Turned h′ g′
+      pub turned-go : (x : Head) → does ≡ Go x → (h′ : Head) (g′ : List ℕ) → g′ ≡ g → h′ ≡ x → Turned h′ g′
       turned-go x p h′ g′ eg eh =
           let d = keeps (Go x) p in
           rw (eg, eh) (record { few = d .0; counted = omega (arith, d .1); size = z; same = sym (turn (Go x) p) })
 
-      pub turned-edge : (x : Head) (i j : ℕ) → stepUpTo most h room (shapeOf (take (e - a) (drop a s))) ≡ Edge x i j
+      pub turned-edge : (x : Head) (i j : ℕ) → does ≡ Edge x i j
           → (h′ : Head) (g′ g₁ g₂ : List ℕ) → g₁ ≡ mark g i j → g₂ ≡ mark g₁ j i → g′ ≡ g₂ → h′ ≡ x → Turned h′ g′
       turned-edge x i j p h′ g′ g₁ g₂ e₁ e₂ eg eh =
           let d = keeps (Edge x i j) p in
@@ -118,16 +126,17 @@ module _ (most : ℕ) where
 
 abbrev pub Bounded : ℕ → Reading → Type 0
 Bounded k (Read n) = n ≤ k
-Bounded k (Refused f l) = Unit {0}
+Bounded k (Refused f l c) = Unit {0}
 
 module _ (most : ℕ) where
   from-bounded : (t : Text) (room l : ℕ) (h : Head) (g : List ℕ) (k : ℕ) → ((n : ℕ) → n ≤ most → n ≤ room → n ≤ k) → h .n ≤ k → Bounded k (readFromUpTo most t room l h g .answer)
   from-bounded done room l h g k f a = cond-cases (λ (x : Found). Bounded k (x .answer)) (h .seen) _ _ (λ _. cond-cases (λ (x : Found). Bounded k (x .answer)) (eqb (h .count) (h .m)) _ _ (λ _. a) (λ _. tt)) (λ _. tt)
   from-bounded (unended x) room l h g k f a = tt
-  from-bounded (ended x t) room l h g k f a = go (stepUpTo most h room (shapeOf x)) (step-kept most h room (shapeOf x) k f a) (λ h g. from-bounded t room (l + 1) h g k f)
+  from-bounded (ended x t) room l h g k f a = go (stepUpTo most h room (spotOf x) (shapeOf x)) (step-kept most h room (spotOf x) (shapeOf x) k f a) (λ h g. from-bounded t room (l + 1) h g k f)
     where
       go : (st : Step) → Kept k (h .count) st → ((h : Head) (g : List ℕ) → h .n ≤ k → Bounded k (readFromUpTo most t room (l + 1) h g .answer))
           → Bounded k (afterUpTo most st g l (readFromUpTo most t room (l + 1)) .answer)
+      go (StopAt p) d r = tt
       go (Stop f) d r = tt
       go (Go y) d r = r y g (d .0)
       go (Edge y i j) d r = r y (join g i j) (d .0)

@@ -1,4 +1,9 @@
 pub mod Shapes
+pub mod Reach
+pub mod Columns
+pub mod Permitted
+pub mod PatternLaws
+pub mod Spots
 pub mod Fold
 pub mod Copy
 pub mod Answers
@@ -10,6 +15,8 @@ pub mod Lengths
 pub mod ReadBack
 pub mod ReadSound
 pub mod Lines
+pub mod Widths
 pub mod Calls
 mod Examples
+mod ColumnExamples
 pub mod Unique

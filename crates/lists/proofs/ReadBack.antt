@@ -18,6 +18,8 @@ use Rattle.clashes.specs.Matrix.{matrix, SoundUpTo, Sound}
 use Rattle.lines.specs.Text.{Text, linesOf}
 use Rattle.lines.specs.Numeral.{numeral, twoLine}
 use Rattle.lines.proofs.Back.{pair-back, two-back}
+use Rattle.lists.specs.Expect.{spotOf}
+use Rattle.lists.specs.declared.Spot.{Spot}
 use Rattle.lists.specs.Shape.{pWord, eWord, asP, asE, shapeOf}
 use Rattle.lists.specs.Read.{noRowsUpTo, accepted, stepUpTo, join, finishUpTo, afterUpTo, readFromUpTo, start, readUpTo, mostEntries, longestText, noRows, readOf, writtenOf}
 use Rattle.lists.specs.Edges.{edges}
@@ -47,8 +49,8 @@ edge-shape : (i j : ℕ) → i + 1 < 10000000 → j + 1 < 10000000 → shapeOf (
 edge-shape i j hi hj = ap asE (pair-back (i + 1) (j + 1) hi hj)
 
 module _ (most : ℕ) where
-  edge-step : (n m c room i j : ℕ) → i < j → j < n → stepUpTo most (known n m c) room (E (i + 1) (j + 1)) ≡ Edge (known n m (c + 1)) i j
-  edge-step n m c room i j a b =
+  edge-step : (n m c room : ℕ) (p : Spot) (i j : ℕ) → i < j → j < n → stepUpTo most (known n m c) room p (E (i + 1) (j + 1)) ≡ Edge (known n m (c + 1)) i j
+  edge-step n m c room p i j a b =
       let u : i + 1 - 1 ≡ i = omega arith in
       let v : j + 1 - 1 ≡ j = omega arith in
       rw (le-leb 1 (i + 1) (omega arith), le-leb (i + 1) n (omega arith), le-leb 1 (j + 1) (omega arith), le-leb (j + 1) n (omega arith), ne-eqb (i + 1) (j + 1) (λ e. omega arith), u, v)
@@ -56,7 +58,8 @@ module _ (most : ℕ) where
   edge-read : (n m c room k i j : ℕ) (g t : List ℕ) → i < j → j < n → n < 10000000
       → readFromUpTo most (linesOf (twoLine eWord (i + 1) (j + 1) ++ t)) room k (known n m c) g ≡ readFromUpTo most (linesOf t) room (k + 1) (known n m (c + 1)) (join g i j)
   edge-read n m c room k i j g t a b d =
-      let s = ap (stepUpTo most (known n m c) room) (edge-shape i j (omega arith) (omega arith)) ∙ edge-step n m c room i j a b in
+      let p = spotOf (eWord ++ (numeral (i + 1) ++ 32 ∷ numeral (j + 1))) in
+      let s = ap (stepUpTo most (known n m c) room p) (edge-shape i j (omega arith) (omega arith)) ∙ edge-step n m c room p i j a b in
       ap (λ (x : Text). readFromUpTo most x room k (known n m c) g) (two-back eWord (i + 1) (j + 1) t ((λ e. omega arith), ((λ e. omega arith), tt)))
       ∙ ap (λ (x : Step). afterUpTo most x g k (readFromUpTo most (linesOf t) room (k + 1))) s
 
@@ -88,8 +91,9 @@ module _ (most longest : ℕ) where
       let n = length rows in
       let es = edges rows in
       let m = length es in
-      let s : stepUpTo most start room (shapeOf (pWord ++ (numeral n ++ 32 ∷ numeral m))) ≡ Go (known n m 0) =
-      ap (stepUpTo most start room) (ap asP (pair-back n m (w .0) (w .1))) ∙ rw (le-leb n most h, le-leb n room k) in
+      let p = spotOf (pWord ++ (numeral n ++ 32 ∷ numeral m)) in
+      let s : stepUpTo most start room p (shapeOf (pWord ++ (numeral n ++ 32 ∷ numeral m))) ≡ Go (known n m 0) =
+      ap (stepUpTo most start room p) (ap asP (pair-back n m (w .0) (w .1))) ∙ rw (le-leb n most h, le-leb n room k) in
       let v : 0 + m ≡ m = omega arith in
       sym (read-short most longest (textOf rows) room z)
       ∙ ap (λ (x : Text). readFromUpTo most x room 1 start (noRowsUpTo most))

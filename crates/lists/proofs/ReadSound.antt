@@ -17,6 +17,7 @@ use Rattle.clashes.specs.Matrix.{matrix, SoundUpTo, Sound}
 use Rattle.lines.specs.Text.{Text, done, unended, ended, linesOf}
 use Rattle.lines.proofs.Basics.{cond-cases}
 use Rattle.lists.specs.Shape.{shapeOf}
+use Rattle.lists.specs.Expect.{spotOf}
 use Rattle.lists.specs.Read.{noRowsUpTo, inside, edgeOf, stepUpTo, join, afterUpTo, readFromUpTo, start, readUpTo, mostEntries, longestText, readOf}
 use Rattle.lists.specs.declared.Shape.{Shape}
 use Rattle.lists.specs.declared.Shape.the-variants.{Comment, P, E, Bad}
@@ -25,7 +26,8 @@ use Rattle.lists.specs.declared.Found.{Found}
 use Rattle.lists.specs.declared.Reading.{Reading}
 use Rattle.lists.specs.declared.Reading.the-variants.{Read, Refused}
 use Rattle.lists.specs.declared.Step.{Step}
-use Rattle.lists.specs.declared.Step.the-variants.{Stop, Go, Edge}
+use Rattle.lists.specs.declared.Step.the-variants.{StopAt, Stop, Go, Edge}
+use Rattle.lists.specs.declared.Spot.{Spot}
 use Rattle.lists.proofs.Fold.{inside-is, join-length}
 use Rattle.lists.proofs.Marks.{join-was, join-old, join-new, none-bare}
 
@@ -74,6 +76,7 @@ module _ (most : ℕ) where
       }
 
   abbrev After : List ℕ → Step → Type 0
+  After g (StopAt p) = Unit {0}
   After g (Stop f) = Unit {0}
   After g (Go h) = Known h g
   After g (Edge h i j) = Known h (join g i j)
@@ -89,21 +92,21 @@ module _ (most : ℕ) where
       (λ _. tt))
       (λ _. tt)
 
-  known-step : (h : Head) (g : List ℕ) (room : ℕ) (s : Shape) → Known h g → After g (stepUpTo most h room s)
-  known-step h g room Bad k = tt
-  known-step h g room Comment k = k
-  known-step h g room (P n m) k =
+  known-step : (h : Head) (g : List ℕ) (room : ℕ) (p : Spot) (s : Shape) → Known h g → After g (stepUpTo most h room p s)
+  known-step h g room p Bad k = tt
+  known-step h g room p Comment k = k
+  known-step h g room p (P n m) k =
       cond-cases (After g) (h .seen) _ _ (λ _. tt)
       (λ e. cond-cases (After g) (leb n most) _ _
       (λ l. cond-cases (After g) (leb n room) _ _ (λ _. record { clean = clean-none (h .n) n g (k .fresh e) (leb-true n most l) (k .clean); fresh = seen-apart }) (λ _. tt))
       (λ _. tt))
-  known-step h g room (E u v) k = cond-cases (After g) (h .seen) _ _ (λ _. known-edge h g u v k) (λ _. tt)
+  known-step h g room p (E u v) k = cond-cases (After g) (h .seen) _ _ (λ _. known-edge h g u v k) (λ _. tt)
 
   -- ---- and so a text does
 
   abbrev Cleans : Reading → List ℕ → Type 0
   Cleans (Read n) g = Clean n g
-  Cleans (Refused f k) g = Unit {0}
+  Cleans (Refused f k c) g = Unit {0}
 
   abbrev Cleaned : Found → Type 0
   Cleaned f = Cleans (f .answer) (f .rows)
@@ -111,9 +114,10 @@ module _ (most : ℕ) where
   from-clean : (t : Text) (room l : ℕ) (h : Head) (g : List ℕ) → Known h g → Cleaned (readFromUpTo most t room l h g)
   from-clean done room l h g k = cond-cases Cleaned (h .seen) _ _ (λ _. cond-cases Cleaned (eqb (h .count) (h .m)) _ _ (λ _. k .clean) (λ _. tt)) (λ _. tt)
   from-clean (unended x) room l h g k = tt
-  from-clean (ended x t) room l h g k = go (stepUpTo most h room (shapeOf x)) (known-step h g room (shapeOf x) k) (from-clean t room (l + 1))
+  from-clean (ended x t) room l h g k = go (stepUpTo most h room (spotOf x) (shapeOf x)) (known-step h g room (spotOf x) (shapeOf x) k) (from-clean t room (l + 1))
     where
       go : (st : Step) → After g st → ((h : Head) (g : List ℕ) → Known h g → Cleaned (readFromUpTo most t room (l + 1) h g)) → Cleaned (afterUpTo most st g l (readFromUpTo most t room (l + 1)))
+      go (StopAt p) d r = tt
       go (Stop f) d r = tt
       go (Go y) d r = r y g d
       go (Edge y i j) d r = r y (join g i j) d

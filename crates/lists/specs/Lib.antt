@@ -1,4 +1,6 @@
 pub mod Shape
+pub mod Expect
+pub mod Pattern
 pub mod Read
 pub mod Edges
 pub mod Write

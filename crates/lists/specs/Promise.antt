@@ -1,8 +1,9 @@
--- What the callable functions promise, and document 01's numbers of their answers.
+-- What the callable functions promise, and the papers' numbers of their answers.
 --
---   refusalOf f             : the refusal of document 01's table (crate refusals) that a fault is
+--   refusalOf f             : the refusal of the table (crate refusals) that a fault is
 --   numberOf f              : its number
---   Numbers                 : an answer in numbers: the refusal (0: accepted), its line or row, and n or the text's length; 0 where not named
+--   Numbers                 : an answer in numbers: the refusal (0: accepted), its line or row, its column, and n or the text's length; 0 where
+--                             not named
 --   readNumbers a           : the numbers of reading's answer
 --   writeNumbers a          : the numbers of writing's answer
 --   ReadPromise s old a new : reading the text s with the rows old lent answers a and leaves the rows new
@@ -14,7 +15,7 @@ use Prim.Native.Nat.{ℕ}
 use mathlib.Core.Path.{_≡_}
 use mathlib.Core.List.{List}
 use lib.ListN.{length}
-use Rattle.refusals.specs.Table.{Told, told, accepted}
+use Rattle.refusals.specs.Table.{Told, told, toldAt, accepted}
 use Rattle.refusals.specs.Table as table
 use Rattle.refusals.specs.declared.Refusal.{Refusal}
 use Rattle.refusals.specs.declared.Refusal.the-variants as refusal
@@ -23,13 +24,13 @@ use Rattle.lists.specs.Write.{textOf, answerOf, leftOf}
 use Rattle.clashes.specs.Matrix.{JudgedUpTo}
 use Rattle.clashes.specs.declared.Verdict.{Verdict}
 use Rattle.lists.specs.declared.Fault.{Fault}
-use Rattle.lists.specs.declared.Fault.the-variants.{Line, Headless, Second, Size, Room, Vertex, Loop, Count, Long}
+use Rattle.lists.specs.declared.Fault.the-variants.{Line, Headless, Second, Size, Room, Vertex, Loop, Count, Long, Digit, Space, Unended}
 use Rattle.lists.specs.declared.Reading.{Reading}
 use Rattle.lists.specs.declared.Reading.the-variants.{Read, Refused}
 use Rattle.lists.specs.declared.Written.{Written}
 use Rattle.lists.specs.declared.Written.the-variants.{Length, Many, Stray, Itself, OneSided, Full}
 
--- 10 to 18, by their names in the table
+-- 10 to 18, and 21 to 23, by their names in the table
 abbrev pub refusalOf : Fault → Refusal
 refusalOf Line = refusal.Line
 refusalOf Headless = refusal.Headless
@@ -40,6 +41,9 @@ refusalOf Loop = refusal.Loop
 refusalOf Count = refusal.Count
 refusalOf Room = refusal.Room
 refusalOf Long = refusal.Long
+refusalOf Digit = refusal.Digit
+refusalOf Space = refusal.Space
+refusalOf Unended = refusal.Unended
 
 abbrev pub numberOf : Fault → ℕ
 numberOf f = table.numberOf (refusalOf f)
@@ -47,18 +51,19 @@ numberOf f = table.numberOf (refusalOf f)
 pub record Numbers : Type 0 where
   pub number : ℕ
   pub place : ℕ
+  pub column : ℕ
   pub size : ℕ
 
 abbrev pub readNumbers : Reading → Numbers
-readNumbers (Read n) = record { number = accepted; place = 0; size = n }
-readNumbers (Refused f k) = let t = told (refusalOf f) k in record { number = t .number; place = t .line; size = 0 }
+readNumbers (Read n) = record { number = accepted; place = 0; column = 0; size = n }
+readNumbers (Refused f k c) = let t = toldAt (refusalOf f) k c in record { number = t .number; place = t .line; column = t .column; size = 0 }
 
 -- a refusal of the rows, or 19, which names none
 abbrev pub atRow : Told → Numbers
-atRow t = record { number = t .number; place = t .row; size = 0 }
+atRow t = record { number = t .number; place = t .row; column = 0; size = 0 }
 
 abbrev pub writeNumbers : Written → Numbers
-writeNumbers (Length n) = record { number = accepted; place = 0; size = n }
+writeNumbers (Length n) = record { number = accepted; place = 0; column = 0; size = n }
 writeNumbers Many = atRow (told refusal.Many 0)
 writeNumbers (Stray i) = atRow (told refusal.Stray i)
 writeNumbers (Itself i) = atRow (told refusal.Itself i)
@@ -66,7 +71,7 @@ writeNumbers (OneSided i) = atRow (told refusal.OneSided i)
 writeNumbers Full = atRow (told refusal.Full 0)
 
 pub record ReadPromiseUpTo (most longest : ℕ) (s old : List ℕ) (a : Reading) (new : List ℕ) : Type 0 where
-  -- accepted with n, or refused with the first refusal that the text has and its line
+  -- accepted with n, or refused with the first refusal that the text has, its line, and its column
   pub answer : a ≡ readUpTo most longest s (length old) .answer
   -- accepted: the first n rows are the list's, the others as they were; refused: nothing is written
   pub lent : new ≡ writtenOf (readUpTo most longest s (length old)) old

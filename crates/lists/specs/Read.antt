@@ -2,12 +2,13 @@
 --
 --   inside n u        : u is from 1 to n
 --   edgeOf h u v      : what "e U V" does after the p line
---   stepOf h room s   : what a line of shape s does, where h is known: the first refusal that fits, or what is known then
+--   stepOf h room p s : what a line of shape s does, where h is known: the first refusal that fits, or what is known then; p is its own fault of
+--                       shape with its column, which counts where s is none of the permitted shapes
 --   mark g i j        : the rows g, with bit j set in row i
 --   join g i j        : the rows g, with the edge between i and j, in both rows
 --   finish h g k      : what is found at the end of the text, where the next line would be line k
 --   readFrom t room k h g : the lines t, of which the first is line k, where h is known and g are the rows so far
---   readOf s room     : the text s, read with so many rows lent: n and the rows, or the refusal and its line
+--   readOf s room     : the text s, read with so many rows lent: n and the rows, or the refusal, its line, and its column (0 unless it is one of shape)
 --   writtenOf f old   : what the lent rows hold afterwards: the first n are the list's, the others as they were
 --   mostEntries, longestText : today's limits: 64 entries, and 65,536 bytes of a text
 --
@@ -22,13 +23,15 @@ use lib.Dec.{leb, eqb}
 use lib.Bits.{bitOr}
 use Rattle.lines.specs.Text.{Text, done, unended, ended, linesOf}
 use Rattle.lists.specs.Shape.{shapeOf}
+use Rattle.lists.specs.Expect.{spotOf}
 use Rattle.lists.specs.declared.Shape.{Shape}
 use Rattle.lists.specs.declared.Shape.the-variants.{Comment, P, E, Bad}
 use Rattle.lists.specs.declared.Fault.{Fault}
-use Rattle.lists.specs.declared.Fault.the-variants.{Line, Headless, Second, Size, Room, Vertex, Loop, Count, Long}
+use Rattle.lists.specs.declared.Fault.the-variants.{Headless, Second, Size, Room, Vertex, Loop, Count, Long}
+use Rattle.lists.specs.declared.Spot.{Spot}
 use Rattle.lists.specs.declared.Head.{Head}
 use Rattle.lists.specs.declared.Step.{Step}
-use Rattle.lists.specs.declared.Step.the-variants.{Stop, Go, Edge}
+use Rattle.lists.specs.declared.Step.the-variants.{StopAt, Stop, Go, Edge}
 use Rattle.lists.specs.declared.Reading.{Reading}
 use Rattle.lists.specs.declared.Reading.the-variants.{Read, Refused}
 use Rattle.lists.specs.declared.Found.{Found}
@@ -67,33 +70,38 @@ module _ (most : ℕ) where
   abbrev pub noRowsUpTo : List ℕ
   noRowsUpTo = replicate most 0
 
-  abbrev pub refusedUpTo : Fault → ℕ → Found
-  refusedUpTo f k = record { answer = Refused f k; rows = noRowsUpTo }
+  -- at a line, and a column where the fault is one of shape
+  abbrev pub refusedAtUpTo : Spot → ℕ → Found
+  refusedAtUpTo p k = record { answer = Refused (p .fault) k (p .column); rows = noRowsUpTo }
 
-  -- within a line the order is 10, 11, 12, 13, 17, 14, 15
-  abbrev pub stepUpTo : Head → ℕ → Shape → Step
-  stepUpTo h room Bad = Stop Line
-  stepUpTo h room Comment = Go h
-  stepUpTo h room (P n m) =
+  abbrev pub refusedUpTo : Fault → ℕ → Found
+  refusedUpTo f k = refusedAtUpTo (record { fault = f; column = 0 }) k
+
+  -- within a line the order is 10 with 21, 22 and 23 in its place, 11, 12, 13, 17, 14, 15
+  abbrev pub stepUpTo : Head → ℕ → Spot → Shape → Step
+  stepUpTo h room p Bad = StopAt p
+  stepUpTo h room p Comment = Go h
+  stepUpTo h room p (P n m) =
       cond (h .seen) (Stop Second)
       (cond (leb n most)
       (cond (leb n room) (Go (record { seen = true; n = n; m = m; count = 0 })) (Stop Room))
       (Stop Size))
-  stepUpTo h room (E u v) = cond (h .seen) (edgeOf h u v) (Stop Headless)
+  stepUpTo h room p (E u v) = cond (h .seen) (edgeOf h u v) (Stop Headless)
 
   -- at the end of the text: 11, 16
   abbrev pub finishUpTo : Head → List ℕ → ℕ → Found
   finishUpTo h g k = cond (h .seen) (cond (eqb (h .count) (h .m)) (accepted (h .n) g) (refusedUpTo Count k)) (refusedUpTo Headless k)
 
   abbrev pub afterUpTo : Step → List ℕ → ℕ → (Head → List ℕ → Found) → Found
+  afterUpTo (StopAt p) g k next = refusedAtUpTo p k
   afterUpTo (Stop f) g k next = refusedUpTo f k
   afterUpTo (Go h) g k next = next h g
   afterUpTo (Edge h i j) g k next = next h (join g i j)
 
   abbrev pub readFromUpTo : Text → ℕ → ℕ → Head → List ℕ → Found
   readFromUpTo done room k h g = finishUpTo h g k
-  readFromUpTo (unended l) room k h g = refusedUpTo Line k
-  readFromUpTo (ended l t) room k h g = afterUpTo (stepUpTo h room (shapeOf l)) g k (readFromUpTo t room (k + 1))
+  readFromUpTo (unended l) room k h g = refusedAtUpTo (spotOf l) k
+  readFromUpTo (ended l t) room k h g = afterUpTo (stepUpTo h room (spotOf l) (shapeOf l)) g k (readFromUpTo t room (k + 1))
 
   -- and up to `longest` bytes
   abbrev pub readUpTo : ℕ → List ℕ → ℕ → Found
@@ -110,11 +118,14 @@ longestText = 65536
 abbrev pub noRows : List ℕ
 noRows = noRowsUpTo mostEntries
 
+abbrev pub refusedAt : Spot → ℕ → Found
+refusedAt p k = refusedAtUpTo mostEntries p k
+
 abbrev pub refused : Fault → ℕ → Found
 refused f k = refusedUpTo mostEntries f k
 
-abbrev pub stepOf : Head → ℕ → Shape → Step
-stepOf h room s = stepUpTo mostEntries h room s
+abbrev pub stepOf : Head → ℕ → Spot → Shape → Step
+stepOf h room p s = stepUpTo mostEntries h room p s
 
 abbrev pub finish : Head → List ℕ → ℕ → Found
 finish h g k = finishUpTo mostEntries h g k
@@ -132,7 +143,7 @@ readOf s room = readUpTo mostEntries longestText s room
 
 abbrev pub written : Reading → List ℕ → List ℕ → List ℕ
 written (Read n) g old = take n g ++ drop n old
-written (Refused f k) g old = old
+written (Refused f k c) g old = old
 
 abbrev pub writtenOf : Found → List ℕ → List ℕ
 writtenOf f old = written (f .answer) (f .rows) old

@@ -1,8 +1,9 @@
 -- The meaning of a line of a clash text (document 01, "Texts").
 --
---   shapeOf l    : "c " and anything; "p edge N M"; "e U V"; or none of these
---   shapeAt t k  : the shape of line k of the lines t, counted from 1; there is no line 0
---   isP s, isE s : s is that of a p line, of an e line
+--   shapeWith c l : the word c, which comments begin with, and anything; "p edge N M"; "e U V"; or none of these
+--   shapeOf l     : the same, with "c " for c
+--   shapeAt t k   : the shape of line k of the lines t, counted from 1; there is no line 0
+--   isP s, isE s  : s is that of a p line, of an e line
 --
 -- Assumes nothing.
 use Prim.Native.Nat.{ℕ, zero, suc}
@@ -34,12 +35,15 @@ abbrev pub asE : Pair → Shape
 asE (Both u v) = E u v
 asE Neither = Bad
 
-abbrev pub shapeOf : List ℕ → Shape
-shapeOf l =
-    cond (starts cWord l) Comment
+abbrev pub shapeWith : List ℕ → List ℕ → Shape
+shapeWith c l =
+    cond (starts c l) Comment
     (cond (starts pWord l) (asP (pairOf (drop 7 l)))
     (cond (starts eWord l) (asE (pairOf (drop 2 l)))
     Bad))
+
+abbrev pub shapeOf : List ℕ → Shape
+shapeOf l = shapeWith cWord l
 
 abbrev pub shapeAt : Text → ℕ → Shape
 shapeAt t zero = Bad

@@ -3,11 +3,16 @@
 use refusals::Refusal;
 ghost use mathlib.Core.Path.{_≡_};
 ghost use mathlib.Core.List.{_++_};
+ghost use mathlib.Core.Bool.{false, cond};
 ghost use Prim.Native.Nat.{_+_, _-_, _≤_, _<_};
 ghost use lib.ListN.{length, take, drop};
+ghost use Rattle.lines.specs.Number.{digit};
 ghost use Rattle.lines.specs.Numeral.{Put};
 ghost use Rattle.lists.specs.Shape.{shapeOf};
-ghost use Rattle.lists.specs.Read.{edgeOf, stepOf, mark, finish, readOf, refused as refusedAt};
+ghost use Rattle.lists.specs.Expect.{faultAt, spotOf, ends? as mayEnd};
+ghost use Rattle.lists.specs.declared.Fault.the-variants.{Unended};
+ghost use Rattle.lists.specs.Pattern.{patternOf, dueOf, Taken, spotFrom};
+ghost use Rattle.lists.specs.Read.{edgeOf, stepOf, mark, finish, readOf, refused as refusedWith, refusedAt};
 ghost use Rattle.lists.specs.Edges.{rowEdges, edges};
 ghost use Rattle.lists.specs.Write.{edgesText, textOf};
 ghost use Rattle.lists.specs.Promise.{refusalOf, ReadPromise, WritePromise};
@@ -20,7 +25,7 @@ pub enum Shape {
     Bad,
 }
 
-// Document 01's refusals of a clash text, 10 to 18, by their names.
+// The refusals of a clash text, document 01's 10 to 18 and document 02's, by their names.
 pub enum Fault {
     Line,
     Headless,
@@ -31,6 +36,9 @@ pub enum Fault {
     Count,
     Room,
     Long,
+    Digit,
+    Space,
+    Unended,
 }
 
 // Which refusal of document 01's table a fault is.
@@ -47,13 +55,16 @@ pub fn refusal_of(why: Fault) -> Refusal
         Fault::Count => Refusal::Count,
         Fault::Room => Refusal::Room,
         Fault::Long => Refusal::Long,
+        Fault::Digit => Refusal::Digit,
+        Fault::Space => Refusal::Space,
+        Fault::Unended => Refusal::Unended,
     }
 }
 
-// Read, with how many entries; or refused, with the line at fault (0 where none is named).
+// Read, with how many entries; or refused, with the line at fault and its column, each 0 where none is named.
 pub enum Reading {
     Read(usize),
-    Refused(Fault, usize),
+    Refused(Fault, usize, usize),
 }
 
 // What reading found: the answer, and the rows of an accepted list (the others are 0).
@@ -70,8 +81,15 @@ pub struct Head {
     pub count: usize,
 }
 
-// What a line does: a fault, something more known, or an edge besides, by entries that count from 0.
+// A fault of a line's shape, and its column: of the byte, counted from 1, at which the line can no longer begin a permitted one.
+pub struct Spot {
+    pub fault: Fault,
+    pub column: usize,
+}
+
+// What a line does: a fault of its shape, another fault, something more known, or an edge besides, by entries that count from 0.
 pub enum Step {
+    StopAt(Spot),
     Stop(Fault),
     Go(Head),
     Edge(Head, usize, usize),
@@ -100,6 +118,164 @@ fn shape_of(s: &[u8]) -> Shape
         };
     }
     Shape::Bad
+}
+
+// What is still expected in a pattern: `at` and what follows it; within a number first some digits more, one less than `digits`, at most.
+pub struct Due {
+    pub at: usize,
+    pub digits: usize,
+}
+
+// What is expected after a byte, where it can stand.
+pub enum Onward {
+    To(Due),
+    Nowhere,
+}
+
+fn is_digit(b: u8) -> bool
+    ensures { λ r. ⌜ r ≡ digit b ⌝ }
+{
+    if b < b'0' {
+        return false;
+    }
+    b <= b'9'
+}
+
+// What the pattern `w` expects after the byte `b`, where it expects `d`.
+fn after(w: &[u8], d: Due, b: u8) -> Onward
+    ensures { λ r. ⌜ Taken (now (w .entry)) d b r ⌝ }
+{
+    let at = d.at;
+    let more = d.digits;
+    if 0 < more {
+        if is_digit(b) {
+            if more == 1 {
+                return Onward::Nowhere;
+            }
+            return Onward::To(Due {
+                at,
+                digits: more - 1,
+            });
+        }
+    }
+    if w.len() <= at {
+        return Onward::Nowhere;
+    }
+    let x = w[at];
+    if x == b'*' {
+        return Onward::To(Due { at, digits: 0 });
+    }
+    if x == b'0' {
+        if is_digit(b) {
+            // a first 0 stands alone
+            if b == b'0' {
+                return Onward::To(Due {
+                    at: at + 1,
+                    digits: 1,
+                });
+            }
+            return Onward::To(Due {
+                at: at + 1,
+                digits: 7,
+            });
+        }
+        return Onward::Nowhere;
+    }
+    if x == b {
+        return Onward::To(Due {
+            at: at + 1,
+            digits: 0,
+        });
+    }
+    Onward::Nowhere
+}
+
+// The fault where the pattern `w` expects `d`, and it does not stand there; a digit does or not.
+fn fault_at(w: &[u8], d: Due, digit: bool) -> Fault
+    ensures { λ r. ⌜ r ≡ faultAt (dueOf (now (w .entry)) d) digit ⌝ }
+{
+    let at = d.at;
+    if 0 < d.digits {
+        if digit {
+            return Fault::Digit;
+        }
+        return Fault::Space;
+    }
+    if w.len() <= at {
+        return Fault::Space;
+    }
+    match w[at] {
+        b'0' => Fault::Digit,
+        b' ' => Fault::Space,
+        b'*' => Fault::Space,
+        _ => Fault::Line,
+    }
+}
+
+// Whether a line may end where the pattern `w` expects `d`.
+fn may_end(w: &[u8], d: Due) -> bool
+    ensures { λ r. ⌜ r ≡ mayEnd (dueOf (now (w .entry)) d) ⌝ }
+{
+    let at = d.at;
+    if w.len() <= at {
+        return true;
+    }
+    w[at] == b'*'
+}
+
+// The fault of a line that stops, without its line feed if it is whole, where the pattern `w` expects `d`.
+fn stopped(w: &[u8], d: Due) -> Fault
+    ensures { λ r. ⌜ r ≡ cond (mayEnd (dueOf (now (w .entry)) d)) Unended (faultAt (dueOf (now (w .entry)) d) false) ⌝ }
+{
+    if may_end(w, d) {
+        return Fault::Unended;
+    }
+    fault_at(w, d, false)
+}
+
+// The first byte of a line that the pattern `w` cannot take, and the fault there; or where the line stops.
+fn spot_along(s: &[u8], w: &[u8]) -> Spot
+    ensures { λ r. ⌜ r ≡ spotFrom 0 (now (s .entry)) (patternOf (now (w .entry))) ⌝ }
+{
+    let mut d = Due { at: 0, digits: 0 };
+    let mut i: usize = 0;
+    while i < s.len() {
+        match after(w, d, s[i]) {
+            Onward::To(e) => {
+                d = e;
+            }
+            Onward::Nowhere => {
+                return Spot {
+                    fault: fault_at(w, d, is_digit(s[i])),
+                    column: i + 1,
+                };
+            }
+        }
+        i += 1;
+    }
+    Spot {
+        fault: stopped(w, d),
+        column: s.len() + 1,
+    }
+}
+
+// The fault of a line that is of no permitted shape or has no line feed, and its column. A line's first byte says which pattern it follows.
+fn spot_of(s: &[u8]) -> Spot
+    ensures { λ r. ⌜ r ≡ spotOf (now (s .entry)) ⌝ }
+{
+    if lines::begins(s, b"c") {
+        return spot_along(s, b"c *");
+    }
+    if lines::begins(s, b"p") {
+        return spot_along(s, b"p edge 0 0");
+    }
+    if lines::begins(s, b"e") {
+        return spot_along(s, b"e 0 0");
+    }
+    Spot {
+        fault: Fault::Line,
+        column: 1,
+    }
 }
 
 // What an e line does after the p line: 14, 15, or an edge.
@@ -134,13 +310,13 @@ fn edge(h: Head, u: usize, v: usize) -> Step
     )
 }
 
-// What a line of this shape does, where `h` is known and `room` rows are lent.
-fn apply(h: Head, room: usize, s: Shape) -> Step
+// What the line `l` does, where `h` is known and `room` rows are lent. Where it went bad is looked for only if it did.
+fn apply(h: Head, room: usize, l: &[u8]) -> Step
     requires { ⌜ h .count < 1000000 ⌝ }
-    ensures { λ r. ⌜ r ≡ stepOf h room s ⌝ }
+    ensures { λ r. ⌜ r ≡ stepOf h room (spotOf (now (l .entry))) (shapeOf (now (l .entry))) ⌝ }
 {
-    match s {
-        Shape::Bad => Step::Stop(Fault::Line),
+    match shape_of(l) {
+        Shape::Bad => Step::StopAt(spot_of(l)),
         Shape::Comment => Step::Go(h),
         Shape::P(n, m) => {
             if h.seen {
@@ -176,14 +352,28 @@ fn set_bit(g: &mut [u64; 64], i: usize, j: usize)
     g[i] = g[i] | (1u64 << j);
 }
 
-// A refusal has no rows.
-fn refused(why: Fault, line: usize) -> Found
+// A refusal has no rows; one of a line's shape has a column.
+fn refused_at(why: Spot, line: usize) -> Found
     ensures { λ r. ⌜ r ≡ refusedAt why line ⌝ }
 {
+    let fault = why.fault;
+    let column = why.column;
     Found {
-        answer: Reading::Refused(why, line),
+        answer: Reading::Refused(fault, line, column),
         rows: [0; 64],
     }
+}
+
+fn refused(why: Fault, line: usize) -> Found
+    ensures { λ r. ⌜ r ≡ refusedWith why line ⌝ }
+{
+    refused_at(
+        Spot {
+            fault: why,
+            column: 0,
+        },
+        line,
+    )
 }
 
 // At the end of the text: 11, 16, or the list.
@@ -221,9 +411,12 @@ pub fn gather(text: &[u8], room: usize) -> Found
     while at < text.len() {
         let e = lines::line_end(text, at);
         if text.len() <= e {
-            return refused(Fault::Line, line);
+            return refused_at(spot_of(&text[at..]), line);
         }
-        match apply(h, room, shape_of(&text[at..e])) {
+        match apply(h, room, &text[at..e]) {
+            Step::StopAt(spot) => {
+                return refused_at(spot, line);
+            }
             Step::Stop(why) => {
                 return refused(why, line);
             }

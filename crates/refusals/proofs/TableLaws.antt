@@ -1,5 +1,5 @@
 -- The table's numbers tell its refusals apart, and none of them is 0, which says accepted; what is told with a refusal leaves its number as it
--- is. Assumes nothing.
+-- is, and its line and its column do not depend on each other. Assumes nothing.
 use mathlib.Core.Path.{_≡_, refl, sym, ap, subst, _∙_}
 use mathlib.Core.Logic.{_≢_}
 use mathlib.Core.Bool.{Bool, true, false, cond}
@@ -8,15 +8,15 @@ use mathlib.Core.Option.{Option, none, some}
 use Prim.Native.Nat.{ℕ}
 use native.Mathlib.Omega.{arith}
 use lib.Dec.{T, eqb, eqb→eq}
-use Rattle.refusals.specs.Table.{Beside, nothing, aRow, theNodes, aLine, anIndex, entry, numberOf, accepted, with, told}
+use Rattle.refusals.specs.Table.{Beside, nothing, aRow, theNodes, aLine, aSpot, anIndex, entry, numberOf, accepted, with, told, toldAt}
 use Rattle.refusals.specs.declared.Refusal.{Refusal}
-use Rattle.refusals.specs.declared.Refusal.the-variants.{Many, Stray, Itself, OneSided, Short, Budget, Deep, Line, Headless, Second, Size, Vertex, Loop, Count, Room, Long, Full, SheetLine, Member, Order, Twice, Clash, Ends, Missing, Extra, Colours}
+use Rattle.refusals.specs.declared.Refusal.the-variants.{Many, Stray, Itself, OneSided, Short, Budget, Deep, Line, Headless, Second, Size, Vertex, Loop, Count, Room, Long, Full, Digit, Space, Unended, SheetLine, Member, Order, Twice, Clash, Ends, Missing, Extra, Colours}
 
 -- every refusal, in the table's order
 abbrev pub all : List Refusal
 all =
     Many ∷ Stray ∷ Itself ∷ OneSided ∷ Short ∷ Budget ∷ Deep ∷ Line ∷ Headless ∷ Second ∷ Size ∷ Vertex ∷ Loop ∷ Count ∷ Room ∷ Long ∷ Full
-    ∷ SheetLine ∷ Member ∷ Order ∷ Twice ∷ Clash ∷ Ends ∷ Missing ∷ Extra ∷ Colours ∷ []
+    ∷ Digit ∷ Space ∷ Unended ∷ SheetLine ∷ Member ∷ Order ∷ Twice ∷ Clash ∷ Ends ∷ Missing ∷ Extra ∷ Colours ∷ []
 
 -- who of these has the number n
 abbrev whose : ℕ → List Refusal → Option Refusal
@@ -42,6 +42,9 @@ back Count = refl
 back Room = refl
 back Long = refl
 back Full = refl
+back Digit = refl
+back Space = refl
+back Unended = refl
 back SheetLine = refl
 back Member = refl
 back Order = refl
@@ -58,14 +61,38 @@ number-unique r q e = let h : some r ≡ some q = sym (back r) ∙ ap (λ (n : �
 pub number-refuses : (r : Refusal) → numberOf r ≢ accepted
 number-refuses r e = let h : some r ≡ none = sym (back r) ∙ ap (λ (n : ℕ). whose n all) e in let z : _≡_ {A = ℕ} 0 1 = cc in absurd (omega arith)
 
-pub told-number : (r : Refusal) (x : ℕ) → told r x .number ≡ numberOf r
-told-number r x = go (entry r .beside)
+pub told-number : (r : Refusal) (x c : ℕ) → toldAt r x c .number ≡ numberOf r
+told-number r x c = go (entry r .beside)
   where
-    go : (b : Beside) → with (entry r .number) b x .number ≡ entry r .number
+    go : (b : Beside) → with (entry r .number) b x c .number ≡ entry r .number
     go nothing = refl
     go aRow = refl
     go theNodes = refl
     go aLine = refl
+    go aSpot = refl
+    go anIndex = refl
+
+-- the line is the same with any column, and the column with any line
+pub told-line : (r : Refusal) (x c : ℕ) → toldAt r x c .line ≡ told r x .line
+told-line r x c = go (entry r .beside)
+  where
+    go : (b : Beside) → with (entry r .number) b x c .line ≡ with (entry r .number) b x 0 .line
+    go nothing = refl
+    go aRow = refl
+    go theNodes = refl
+    go aLine = refl
+    go aSpot = refl
+    go anIndex = refl
+
+pub told-column : (r : Refusal) (x c : ℕ) → toldAt r x c .column ≡ toldAt r 0 c .column
+told-column r x c = go (entry r .beside)
+  where
+    go : (b : Beside) → with (entry r .number) b x c .column ≡ with (entry r .number) b 0 c .column
+    go nothing = refl
+    go aRow = refl
+    go theNodes = refl
+    go aLine = refl
+    go aSpot = refl
     go anIndex = refl
 
 -- ---- a test of every number, computed once, holds of each

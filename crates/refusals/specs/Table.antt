@@ -1,11 +1,12 @@
--- Document 01, "Numbers given for a refusal": the one table of numbers. Every promise goes through it by number.
+-- Document 01, "Numbers given for a refusal", and document 02's refusals: the one table of numbers. Every promise goes through it by number.
 --
---   Beside          : what is returned with a refusal: nothing, a row, the nodes, a line, or an index
+--   Beside          : what is returned with a refusal: nothing, a row, the nodes, a line, a spot (a line and a column), or an index
 --   Entry, entry r  : a row of the table: the number of the refusal r, and what is returned with it
 --   numberOf r      : its number
 --   accepted        : 0, the number of an answer that is no refusal
 --   Told            : an answer in the table's numbers: its number, and each number that can be returned with one, 0 where it is not named
---   told r x        : the refusal r, with x where the table says that a number is returned with it
+--   toldAt r x c    : the refusal r, with x where the table says that a number is returned with it, and x and the column c where it is a spot
+--   told r x        : the same of a refusal that has no column
 --   fine            : accepted, with none of these
 --   If b P Q        : P where b is true, else Q; so a promise says "where the number is that of MANY, this; where it is that of STRAY, .."
 --
@@ -13,13 +14,14 @@
 use mathlib.Core.Bool.{Bool, true, false}
 use Prim.Native.Nat.{ℕ}
 use Rattle.refusals.specs.declared.Refusal.{Refusal}
-use Rattle.refusals.specs.declared.Refusal.the-variants.{Many, Stray, Itself, OneSided, Short, Budget, Deep, Line, Headless, Second, Size, Vertex, Loop, Count, Room, Long, Full, SheetLine, Member, Order, Twice, Clash, Ends, Missing, Extra, Colours}
+use Rattle.refusals.specs.declared.Refusal.the-variants.{Many, Stray, Itself, OneSided, Short, Budget, Deep, Line, Headless, Second, Size, Vertex, Loop, Count, Room, Long, Full, Digit, Space, Unended, SheetLine, Member, Order, Twice, Clash, Ends, Missing, Extra, Colours}
 
 pub data Beside : Type 0 where
   nothing : Beside
   aRow : Beside
   theNodes : Beside
   aLine : Beside
+  aSpot : Beside
   anIndex : Beside
 
 pub record Entry : Type 0 where
@@ -38,7 +40,7 @@ entry OneSided = row 4 aRow
 entry Short = row 5 nothing
 entry Budget = row 6 theNodes
 entry Deep = row 7 nothing
-entry Line = row 10 aLine
+entry Line = row 10 aSpot
 entry Headless = row 11 aLine
 entry Second = row 12 aLine
 entry Size = row 13 aLine
@@ -48,6 +50,9 @@ entry Count = row 16 aLine
 entry Room = row 17 aLine
 entry Long = row 18 nothing
 entry Full = row 19 nothing
+entry Digit = row 21 aSpot
+entry Space = row 22 aSpot
+entry Unended = row 23 aSpot
 entry SheetLine = row 30 aLine
 entry Member = row 31 aLine
 entry Order = row 32 aLine
@@ -71,21 +76,26 @@ pub record Told : Type 0 where
   pub row : ℕ
   pub nodes : ℕ
   pub line : ℕ
+  pub column : ℕ
   pub index : ℕ
 
 -- "every result number not named is 0"
-abbrev pub with : ℕ → Beside → ℕ → Told
-with n nothing x = record { number = n; row = 0; nodes = 0; line = 0; index = 0 }
-with n aRow x = record { number = n; row = x; nodes = 0; line = 0; index = 0 }
-with n theNodes x = record { number = n; row = 0; nodes = x; line = 0; index = 0 }
-with n aLine x = record { number = n; row = 0; nodes = 0; line = x; index = 0 }
-with n anIndex x = record { number = n; row = 0; nodes = 0; line = 0; index = x }
+abbrev pub with : ℕ → Beside → ℕ → ℕ → Told
+with n nothing x c = record { number = n; row = 0; nodes = 0; line = 0; column = 0; index = 0 }
+with n aRow x c = record { number = n; row = x; nodes = 0; line = 0; column = 0; index = 0 }
+with n theNodes x c = record { number = n; row = 0; nodes = x; line = 0; column = 0; index = 0 }
+with n aLine x c = record { number = n; row = 0; nodes = 0; line = x; column = 0; index = 0 }
+with n aSpot x c = record { number = n; row = 0; nodes = 0; line = x; column = c; index = 0 }
+with n anIndex x c = record { number = n; row = 0; nodes = 0; line = 0; column = 0; index = x }
+
+abbrev pub toldAt : Refusal → ℕ → ℕ → Told
+toldAt r x c = with (entry r .number) (entry r .beside) x c
 
 abbrev pub told : Refusal → ℕ → Told
-told r x = with (entry r .number) (entry r .beside) x
+told r x = toldAt r x 0
 
 abbrev pub fine : Told
-fine = with accepted nothing 0
+fine = with accepted nothing 0 0
 
 -- ---- promises by number
 

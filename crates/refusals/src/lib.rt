@@ -1,8 +1,8 @@
-// Document 01's refusals: their names, and the number of each.
+// The refusals of documents 01 and 02: their names, the number of each, and what is returned with it.
 ghost use mathlib.Core.Path.{_≡_};
-ghost use Rattle.refusals.specs.Table.{numberOf, told};
+ghost use Rattle.refusals.specs.Table.{numberOf, told, toldAt};
 
-// The names of document 01's table, in its order. Itself is SELF, SheetLine is SHEET LINE.
+// The names of document 01's table, in its order, with those of document 02 where their numbers stand. Itself is SELF, SheetLine is SHEET LINE.
 pub enum Refusal {
     Many,
     Stray,
@@ -21,6 +21,9 @@ pub enum Refusal {
     Room,
     Long,
     Full,
+    Digit,
+    Space,
+    Unended,
     SheetLine,
     Member,
     Order,
@@ -54,6 +57,9 @@ pub fn number(r: Refusal) -> usize
         Refusal::Room => 17,
         Refusal::Long => 18,
         Refusal::Full => 19,
+        Refusal::Digit => 21,
+        Refusal::Space => 22,
+        Refusal::Unended => 23,
         Refusal::SheetLine => 30,
         Refusal::Member => 31,
         Refusal::Order => 32,
@@ -88,6 +94,9 @@ pub fn line(r: Refusal, given: usize) -> usize
         Refusal::Room => given,
         Refusal::Long => 0,
         Refusal::Full => 0,
+        Refusal::Digit => given,
+        Refusal::Space => given,
+        Refusal::Unended => given,
         Refusal::SheetLine => given,
         Refusal::Member => given,
         Refusal::Order => given,
@@ -96,6 +105,43 @@ pub fn line(r: Refusal, given: usize) -> usize
         Refusal::Ends => given,
         Refusal::Missing => given,
         Refusal::Extra => given,
+        Refusal::Colours => 0,
+    }
+}
+
+// The column that is told with a refusal: the one that is given, where the table says that a line and a column are returned with it; else 0.
+pub fn column(r: Refusal, given: usize) -> usize
+    ensures { λ n. ⌜ n ≡ toldAt r 0 given .column ⌝ }
+{
+    match r {
+        Refusal::Many => 0,
+        Refusal::Stray => 0,
+        Refusal::Itself => 0,
+        Refusal::OneSided => 0,
+        Refusal::Short => 0,
+        Refusal::Budget => 0,
+        Refusal::Deep => 0,
+        Refusal::Line => given,
+        Refusal::Headless => 0,
+        Refusal::Second => 0,
+        Refusal::Size => 0,
+        Refusal::Vertex => 0,
+        Refusal::Loop => 0,
+        Refusal::Count => 0,
+        Refusal::Room => 0,
+        Refusal::Long => 0,
+        Refusal::Full => 0,
+        Refusal::Digit => given,
+        Refusal::Space => given,
+        Refusal::Unended => given,
+        Refusal::SheetLine => 0,
+        Refusal::Member => 0,
+        Refusal::Order => 0,
+        Refusal::Twice => 0,
+        Refusal::Clash => 0,
+        Refusal::Ends => 0,
+        Refusal::Missing => 0,
+        Refusal::Extra => 0,
         Refusal::Colours => 0,
     }
 }

@@ -25,7 +25,9 @@ use Rattle.lists.specs.declared.Reading.the-variants.{Read}
 use Rattle.lists.specs.declared.Shape.{Shape}
 use Rattle.lists.specs.declared.Shape.the-variants.{Comment, P, E, Bad}
 use Rattle.lists.specs.declared.Step.{Step}
-use Rattle.lists.specs.declared.Step.the-variants.{Stop, Go, Edge}
+use Rattle.lists.specs.declared.Step.the-variants.{StopAt, Stop, Go, Edge}
+use Rattle.lists.specs.declared.Spot.{Spot}
+use Rattle.lists.specs.Expect.{spotOf}
 use Rattle.lists.proofs.Fold.{Bounded, read-up-to-few, join-length}
 use Rattle.sheets.specs.Promise.{CheckPromiseUpTo, CheckPromise}
 use Rattle.sheets.specs.declared.Checked.{Checked}
@@ -40,11 +42,11 @@ use Rattle.sheet_texts.proofs.Calls.{calls-up-to-free}
 
 module _ (most : ℕ) where
   -- a step that does not stop is the same
-  same-step : (h : Head) (room : ℕ) (s : Shape) → ((f : Fault) → ¬ (stepUpTo most h room s ≡ Stop f)) → stepUpTo most h most s ≡ stepUpTo most h room s
-  same-step h room Bad n = refl
-  same-step h room Comment n = refl
-  same-step h room (E u v) n = refl
-  same-step h room (P m e) n = seen (h .seen) refl n
+  same-step : (h : Head) (room : ℕ) (p : Spot) (s : Shape) → ((f : Fault) → ¬ (stepUpTo most h room p s ≡ Stop f)) → stepUpTo most h most p s ≡ stepUpTo most h room p s
+  same-step h room p Bad n = refl
+  same-step h room p Comment n = refl
+  same-step h room p (E u v) n = refl
+  same-step h room p (P m e) n = seen (h .seen) refl n
     where
       fits : (b : Bool) → leb m room ≡ b → leb m most ≡ true → ((f : Fault) → ¬ (cond b (Go (record { seen = true; n = m; m = e; count = 0 })) (Stop Fault.Room) ≡ Stop f))
           → cond (leb m most) (Go (record { seen = true; n = m; m = e; count = 0 })) (Stop Fault.Room) ≡ cond b (Go (record { seen = true; n = m; m = e; count = 0 })) (Stop Fault.Room)
@@ -68,17 +70,18 @@ module _ (most : ℕ) where
   same-from : (t : Text) (room k : ℕ) (h : Head) (g : List ℕ) (n : ℕ) → readFromUpTo most t room k h g .answer ≡ Read n → readFromUpTo most t most k h g ≡ readFromUpTo most t room k h g
   same-from done room k h g n e = refl
   same-from (unended l) room k h g n e = refl
-  same-from (ended l t) room k h g n e = go (stepUpTo most h room (shapeOf l)) refl e (same-from t room (k + 1))
+  same-from (ended l t) room k h g n e = go (stepUpTo most h room (spotOf l) (shapeOf l)) refl e (same-from t room (k + 1))
     where
-      here : (st : Step) → stepUpTo most h room (shapeOf l) ≡ st → ((f : Fault) → ¬ (st ≡ Stop f)) → stepUpTo most h most (shapeOf l) ≡ st
-      here st q n = same-step h room (shapeOf l) (λ f z. n f (sym q ∙ z)) ∙ q
+      here : (st : Step) → stepUpTo most h room (spotOf l) (shapeOf l) ≡ st → ((f : Fault) → ¬ (st ≡ Stop f)) → stepUpTo most h most (spotOf l) (shapeOf l) ≡ st
+      here st q n = same-step h room (spotOf l) (shapeOf l) (λ f z. n f (sym q ∙ z)) ∙ q
 
-      step : (st : Step) → stepUpTo most h most (shapeOf l) ≡ st → afterUpTo most (stepUpTo most h most (shapeOf l)) g k (readFromUpTo most t most (k + 1)) ≡ afterUpTo most st g k (readFromUpTo most t most (k + 1))
+      step : (st : Step) → stepUpTo most h most (spotOf l) (shapeOf l) ≡ st → afterUpTo most (stepUpTo most h most (spotOf l) (shapeOf l)) g k (readFromUpTo most t most (k + 1)) ≡ afterUpTo most st g k (readFromUpTo most t most (k + 1))
       step st q = ap (λ (x : Step). afterUpTo most x g k (readFromUpTo most t most (k + 1))) q
 
-      go : (st : Step) → stepUpTo most h room (shapeOf l) ≡ st → afterUpTo most st g k (readFromUpTo most t room (k + 1)) .answer ≡ Read n
+      go : (st : Step) → stepUpTo most h room (spotOf l) (shapeOf l) ≡ st → afterUpTo most st g k (readFromUpTo most t room (k + 1)) .answer ≡ Read n
           → ((h : Head) (g : List ℕ) (n : ℕ) → readFromUpTo most t room (k + 1) h g .answer ≡ Read n → readFromUpTo most t most (k + 1) h g ≡ readFromUpTo most t room (k + 1) h g)
-          → afterUpTo most (stepUpTo most h most (shapeOf l)) g k (readFromUpTo most t most (k + 1)) ≡ afterUpTo most st g k (readFromUpTo most t room (k + 1))
+          → afterUpTo most (stepUpTo most h most (spotOf l) (shapeOf l)) g k (readFromUpTo most t most (k + 1)) ≡ afterUpTo most st g k (readFromUpTo most t room (k + 1))
+      go (StopAt p) q e r = let z : _≡_ {A = ℕ} 0 1 = cc in absurd (omega arith)
       go (Stop f) q e r = let z : _≡_ {A = ℕ} 0 1 = cc in absurd (omega arith)
       go (Go y) q e r = step (Go y) (here (Go y) q (λ f z. let w : _≡_ {A = ℕ} 0 1 = cc in omega arith)) ∙ r y g n e
       go (Edge y i j) q e r = step (Edge y i j) (here (Edge y i j) q (λ f z. let w : _≡_ {A = ℕ} 0 1 = cc in omega arith)) ∙ r y (join g i j) n e
@@ -100,9 +103,10 @@ module _ (most : ℕ) where
       cond-cases (λ (x : Found). length (x .rows) ≡ most) (h .seen) _ _
       (λ _. cond-cases (λ (x : Found). length (x .rows) ≡ most) (eqb (h .count) (h .m)) _ _ (λ _. z) (λ _. length-replicate most 0)) (λ _. length-replicate most 0)
   from-size (unended l) room k h g z = length-replicate most 0
-  from-size (ended l t) room k h g z = go (stepUpTo most h room (shapeOf l)) (from-size t room (k + 1))
+  from-size (ended l t) room k h g z = go (stepUpTo most h room (spotOf l) (shapeOf l)) (from-size t room (k + 1))
     where
       go : (st : Step) → ((h : Head) (g : List ℕ) → length g ≡ most → length (readFromUpTo most t room (k + 1) h g .rows) ≡ most) → length (afterUpTo most st g k (readFromUpTo most t room (k + 1)) .rows) ≡ most
+      go (StopAt p) r = length-replicate most 0
       go (Stop f) r = length-replicate most 0
       go (Go y) r = r y g z
       go (Edge y i j) r = r y (join g i j) (join-length g i j ∙ z)

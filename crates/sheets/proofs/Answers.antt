@@ -62,7 +62,7 @@ module _ (most longest : ℕ) where
   check-fits list s room = go (readUpTo most longest list most .answer) (read-up-to-few most longest list most)
     where
       go : (a : Reading) → Bounded most a → Fits room (againstUpTo most longest a (readUpTo most longest list most .rows) s room)
-      go (Unreadable f k) b = record { few = omega arith; fits = omega arith; copied = λ old. refl }
+      go (Unreadable f k c) b = record { few = omega arith; fits = omega arith; copied = λ old. refl }
       go (Read n) b =
           cond-cases (Fits room) (leb n room) _ _ (λ e. sheet-fits room n b (leb-true n room e) (matrix (readUpTo most longest list most .rows)) s)
           (λ _. record { few = omega arith; fits = omega arith; copied = λ old. refl })
@@ -99,8 +99,8 @@ module _ (most longest : ℕ) where
     pub read-small : (n : ℕ) → f .answer ≡ Read n → n ≤ most
     read-small n x = subst (Bounded most) (answer-is x) (read-up-to-few most longest list most)
 
-    pub check-unread : (w : Fault) (k : ℕ) → f .answer ≡ Unreadable w k → checkUpTo most longest list s room ≡ withoutUpTo most (Unread w k)
-    check-unread w k x = ap (λ (a : Reading). againstUpTo most longest a (readUpTo most longest list most .rows) s room) (answer-is x)
+    pub check-unread : (w : Fault) (k c : ℕ) → f .answer ≡ Unreadable w k c → checkUpTo most longest list s room ≡ withoutUpTo most (Unread w k c)
+    check-unread w k c x = ap (λ (a : Reading). againstUpTo most longest a (readUpTo most longest list most .rows) s room) (answer-is x)
 
     pub check-few : (n : ℕ) → f .answer ≡ Read n → room < n → checkUpTo most longest list s room ≡ withoutUpTo most Short
     check-few n x l = ap (λ (a : Reading). againstUpTo most longest a (readUpTo most longest list most .rows) s room) (answer-is x) ∙ rw (lt-leb n room l)

@@ -7,7 +7,7 @@ use mathlib.Core.Bool.{Bool, _&&_, _||_}
 use native.Mathlib.Nat.{add-zero}
 use native.Mathlib.Decide.{decLt}
 use native.Mathlib.Omega.{arith}
-use lib.Dec.{leb, ltb, eqb}
+use lib.Dec.{T, leb, ltb, eqb}
 use lib.ListN.{length, drop, set, drop-of-length-le}
 use denote.Ref.{RefT, now}
 use Rattle.sets.specs.Lists.{all, any}
@@ -23,7 +23,7 @@ use Rattle.refusals.specs.Table.{told}
 use Rattle.lists.specs.Read.{stepUpTo as stepList, afterUpTo as afterList, readFromUpTo, readUpTo, edgeOf, inside as insideList, start as startList, noRowsUpTo}
 use Rattle.lists.specs.Shape.{shapeOf}
 use Rattle.lists.specs.declared.Fault.{Fault}
-use Rattle.lists.specs.declared.Fault.the-variants.{Line as NoLine, Headless, Second, Size, Vertex, Loop, Count as Counted, Room, Long as TooLong}
+use Rattle.lists.specs.declared.Fault.the-variants.{Line as NoLine, Headless, Second, Size, Vertex, Loop, Count as Counted, Room, Long as TooLong, Digit as NoDigit, Space as NoSpace, Unended as NoFeed}
 use Rattle.lists.specs.declared.Found.{Found}
 use Rattle.lists.specs.declared.Head.{Head}
 use Rattle.lists.specs.declared.Reading.{Reading}
@@ -31,7 +31,10 @@ use Rattle.lists.specs.declared.Reading.the-variants.{Read, Refused as Unreadab
 use Rattle.lists.specs.declared.Shape.{Shape}
 use Rattle.lists.specs.declared.Shape.the-variants.{Comment, P, E, Bad}
 use Rattle.lists.specs.declared.Step.{Step as ListStep}
-use Rattle.lists.specs.declared.Step.the-variants.{Stop as StopList, Go, Edge}
+use Rattle.lists.specs.declared.Step.the-variants.{StopAt as StopListAt, Stop as StopList, Go, Edge}
+use Rattle.lists.specs.declared.Spot.{Spot as ListSpot}
+use Rattle.lists.specs.Expect.{ofShape, spotOf}
+use Rattle.lists.proofs.Columns.{spot-shape}
 use Rattle.sheets.specs.Check.{noColoursUpTo, groupsWord, sizeWord, behindOf, groupsOf, sizeOf, memberOf, stepOf, met, none, afterUpTo, checkFromUpTo, start, sheetUpTo, againstUpTo, checkUpTo}
 use Rattle.sheets.specs.Promise.{refusalOf, heldBy, numbersOf, ShownOf, PreviewPromiseUpTo}
 use Rattle.sheets.proofs.Fold.{check-short}
@@ -48,18 +51,37 @@ use Rattle.sheets.specs.declared.Step.the-variants.{Stop, Count, Place}
 
 abbrev Roomy : Reading → Type 0
 Roomy (Read n) = Unit {0}
-Roomy (Unreadable Room k) = ⊥
-Roomy (Unreadable NoLine k) = Unit {0}
-Roomy (Unreadable Headless k) = Unit {0}
-Roomy (Unreadable Second k) = Unit {0}
-Roomy (Unreadable Size k) = Unit {0}
-Roomy (Unreadable Vertex k) = Unit {0}
-Roomy (Unreadable Loop k) = Unit {0}
-Roomy (Unreadable Counted k) = Unit {0}
-Roomy (Unreadable TooLong k) = Unit {0}
+Roomy (Unreadable Room k c) = ⊥
+Roomy (Unreadable NoLine k c) = Unit {0}
+Roomy (Unreadable Headless k c) = Unit {0}
+Roomy (Unreadable Second k c) = Unit {0}
+Roomy (Unreadable Size k c) = Unit {0}
+Roomy (Unreadable Vertex k c) = Unit {0}
+Roomy (Unreadable Loop k c) = Unit {0}
+Roomy (Unreadable Counted k c) = Unit {0}
+Roomy (Unreadable TooLong k c) = Unit {0}
+Roomy (Unreadable NoDigit k c) = Unit {0}
+Roomy (Unreadable NoSpace k c) = Unit {0}
+Roomy (Unreadable NoFeed k c) = Unit {0}
+
+-- 17 is no fault of shape
+roomy-shape : (f : Fault) (k c : ℕ) → T (ofShape f) → Roomy (Unreadable f k c)
+roomy-shape NoLine k c a = tt
+roomy-shape Headless k c a = tt
+roomy-shape Second k c a = tt
+roomy-shape Size k c a = tt
+roomy-shape Vertex k c a = tt
+roomy-shape Loop k c a = tt
+roomy-shape Counted k c a = tt
+roomy-shape TooLong k c a = tt
+roomy-shape NoDigit k c a = tt
+roomy-shape NoSpace k c a = tt
+roomy-shape NoFeed k c a = tt
+roomy-shape Room k c a = absurd a
 
 abbrev Enough : ListStep → Type 0
-Enough (StopList f) = (k : ℕ) → Roomy (Unreadable f k)
+Enough (StopListAt p) = T (ofShape (p .fault))
+Enough (StopList f) = (k : ℕ) → Roomy (Unreadable f k 0)
 Enough (Go h) = Unit {0}
 Enough (Edge h i j) = Unit {0}
 
@@ -71,21 +93,22 @@ edge-enough h u v =
 
 module _ (most : ℕ) where
   -- n is at most the most entries, and so many rows are lent
-  step-enough : (h : Head) (s : Shape) → Enough (stepList most h most s)
-  step-enough h Bad = λ k. tt
-  step-enough h Comment = tt
-  step-enough h (P n m) =
+  step-enough : (h : Head) (p : ListSpot) (s : Shape) → T (ofShape (p .fault)) → Enough (stepList most h most p s)
+  step-enough h p Bad a = a
+  step-enough h p Comment a = tt
+  step-enough h p (P n m) a =
       cond-cases Enough (h .seen) _ _ (λ _ k. tt)
       (λ _. cond-cases Enough (leb n most) _ _ (λ e. rw e tt) (λ _ k. tt))
-  step-enough h (E u v) = cond-cases Enough (h .seen) _ _ (λ _. edge-enough h u v) (λ _ k. tt)
+  step-enough h p (E u v) a = cond-cases Enough (h .seen) _ _ (λ _. edge-enough h u v) (λ _ k. tt)
 
   from-roomy : (t : Text) (k : ℕ) (h : Head) (g : List ℕ) → Roomy (readFromUpTo most t most k h g .answer)
   from-roomy done k h g =
       cond-cases (λ (x : Found). Roomy (x .answer)) (h .seen) _ _ (λ _. cond-cases (λ (x : Found). Roomy (x .answer)) (eqb (h .count) (h .m)) _ _ (λ _. tt) (λ _. tt)) (λ _. tt)
-  from-roomy (unended l) k h g = tt
-  from-roomy (ended l t) k h g = go (stepList most h most (shapeOf l)) (step-enough h (shapeOf l)) (from-roomy t (k + 1))
+  from-roomy (unended l) k h g = roomy-shape (spotOf l .fault) k (spotOf l .column) (spot-shape l)
+  from-roomy (ended l t) k h g = go (stepList most h most (spotOf l) (shapeOf l)) (step-enough h (spotOf l) (shapeOf l) (spot-shape l)) (from-roomy t (k + 1))
     where
       go : (st : ListStep) → Enough st → ((h : Head) (g : List ℕ) → Roomy (readFromUpTo most t most (k + 1) h g .answer)) → Roomy (afterList most st g k (readFromUpTo most t most (k + 1)) .answer)
+      go (StopListAt p) e r = roomy-shape (p .fault) k (p .column) e
       go (StopList f) e r = e k
       go (Go h) e r = r h g
       go (Edge h i j) e r = r h _
@@ -121,13 +144,13 @@ spot-later Extra k i e d j h z s = (omega (arith, s .0), omega (arith, s .1))
 -- an answer of the sheet's own, and its line
 abbrev pub Names : ℕ → ℕ → Checked → Type 0
 Names k e (Accepted n) = Unit {0}
-Names k e (Unread f j) = ⊥
+Names k e (Unread f j c) = ⊥
 Names k e Short = ⊥
 Names k e (Refused f j) = Spot f k e j
 
 names-later : (a : Checked) (k i e d : ℕ) → k ≤ i → e ≡ d → Names i e a → Names k d a
 names-later (Accepted n) k i e d h z s = tt
-names-later (Unread f j) k i e d h z s = s
+names-later (Unread f j c) k i e d h z s = s
 names-later Short k i e d h z s = s
 names-later (Refused f j) k i e d h z s = spot-later f k i e d j h z s
 
@@ -239,7 +262,7 @@ Tail Extra e j = Unit {0}
 
 abbrev Ending : ℕ → Checked → Type 0
 Ending e (Accepted n) = Unit {0}
-Ending e (Unread f j) = Unit {0}
+Ending e (Unread f j c) = Unit {0}
 Ending e Short = Unit {0}
 Ending e (Refused f j) = Tail f e j
 
@@ -256,7 +279,7 @@ spot-tail Extra k e j s = tt
 
 names-ending : (a : Checked) (k e : ℕ) → Names k e a → Ending e a
 names-ending (Accepted n) k e h = tt
-names-ending (Unread f j) k e h = tt
+names-ending (Unread f j c) k e h = tt
 names-ending Short k e h = tt
 names-ending (Refused f j) k e h = spot-tail f k e j h
 
@@ -265,7 +288,7 @@ module _ (most longest : ℕ) where
   check-ending list s room = go (readUpTo most longest list most .answer)
     where
       go : (a : Reading) → Ending (suc (lineCount (linesOf s))) (againstUpTo most longest a (readUpTo most longest list most .rows) s room .answer)
-      go (Unreadable f j) = tt
+      go (Unreadable f j c) = tt
       go (Read n) =
           let E : Outcome → Type 0 = λ o. Ending (suc (lineCount (linesOf s))) (o .answer) in
           let clash = matrix (readUpTo most longest list most .rows) in
@@ -298,18 +321,18 @@ module _ (most longest : ℕ) where
   abbrev Other-than : Checked → Outcome → Type 0
   Other-than a o = ¬ (o .answer ≡ a)
 
-  pub never-room : (list s : List ℕ) (room k : ℕ) → ¬ (checkUpTo most longest list s room .answer ≡ Unread Room k)
-  never-room list s room k e = go (readUpTo most longest list most .answer) (read-roomy most longest list) e
+  pub never-room : (list s : List ℕ) (room k c : ℕ) → ¬ (checkUpTo most longest list s room .answer ≡ Unread Room k c)
+  never-room list s room k c e = go (readUpTo most longest list most .answer) (read-roomy most longest list) e
     where
-      fault-is : (f : Fault) (j : ℕ) → Roomy (Unreadable f j) → ¬ (Unread f j ≡ Unread Room k)
-      fault-is f j r e = let z : f ≡ Room = cc in subst (λ (x : Fault). Roomy (Unreadable x j)) z r
+      fault-is : (f : Fault) (j d : ℕ) → Roomy (Unreadable f j d) → ¬ (Unread f j d ≡ Unread Room k c)
+      fault-is f j d r e = let z : f ≡ Room = cc in subst (λ (x : Fault). Roomy (Unreadable x j d)) z r
 
-      go : (a : Reading) → Roomy a → Other-than (Unread Room k) (againstUpTo most longest a (readUpTo most longest list most .rows) s room)
-      go (Unreadable f j) r = fault-is f j r
+      go : (a : Reading) → Roomy a → Other-than (Unread Room k c) (againstUpTo most longest a (readUpTo most longest list most .rows) s room)
+      go (Unreadable f j d) r = fault-is f j d r
       go (Read n) r =
           let clash = matrix (readUpTo most longest list most .rows) in
-          cond-cases (Other-than (Unread Room k)) (leb n room) _ _
-          (λ _. cond-cases (Other-than (Unread Room k)) (leb (length s) longest) _ _
+          cond-cases (Other-than (Unread Room k c)) (leb n room) _ _
+          (λ _. cond-cases (Other-than (Unread Room k c)) (leb (length s) longest) _ _
           (λ _ e. subst (Names 1 (1 + lineCount (linesOf s))) e (from-names most n clash (linesOf s) 1 start none none (noColoursUpTo most)))
           (λ _ e. let z : _≡_ {A = ℕ} 0 1 = cc in omega arith))
           (λ _ e. let z : _≡_ {A = ℕ} 0 1 = cc in omega arith)

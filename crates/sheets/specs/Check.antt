@@ -158,7 +158,7 @@ module _ (most : ℕ) where
 
     -- the list's own refusals, then 5, then the sheet
     abbrev pub againstUpTo : Reading → List ℕ → List ℕ → ℕ → Outcome
-    againstUpTo (Unreadable f k) rows s room = withoutUpTo most (Unread f k)
+    againstUpTo (Unreadable f k c) rows s room = withoutUpTo most (Unread f k c)
     againstUpTo (Read n) rows s room = cond (leb n room) (sheetUpTo n (matrix rows) s) (withoutUpTo most Short)
 
     -- with as many rows to read into as a list can have, so that 17 cannot arise

@@ -3,9 +3,9 @@
 --   refusalOf f     : the refusal of document 01's table (crate refusals) that a fault of the sheet is
 --   atFault a       : which text is at fault: neither, theList or theSheet
 --   heldBy t list s : the text to show a part of, where t is at fault: the list, or else the sheet
---   refusedIn t r k : the numbers of the refusal r of the text t, with the line k where the table names one
---   numbersOf a     : the numbers of a check's answer: the refusal's (0: accepted), its line, k, and which text is at fault; those that it does
---                     not name are 0
+--   refusedIn t r k c : the numbers of the refusal r of the text t, with the line k and the column c where the table names them
+--   numbersOf a     : the numbers of a check's answer: the refusal's (0: accepted), its line and column, k, and which text is at fault; those
+--                     that it does not name are 0
 --   writtenOf o old : what the lent colour bytes hold after a check
 --   CheckPromise list s old a new : checking the sheet s against the list, with the bytes old lent, answers a and leaves the bytes new
 --   ShownOf s k r   : r is what is shown of the text s for line k: that line without its line feed, or, where none is named, the empty part
@@ -23,7 +23,7 @@ use lib.ListN.{length, take, drop}
 use denote.Ref.{RefT, now}
 use Rattle.lines.specs.Text.{placeOf, lineEnd}
 use Rattle.lines.specs.Part.{PartOf}
-use Rattle.refusals.specs.Table.{told, accepted}
+use Rattle.refusals.specs.Table.{toldAt, accepted}
 use Rattle.refusals.specs.declared.Refusal.{Refusal}
 use Rattle.refusals.specs.declared.Refusal.the-variants as refusal
 use Rattle.lists.specs.Promise.{refusalOf as listRefusalOf}
@@ -61,7 +61,7 @@ theSheet = 2
 
 abbrev pub atFault : Checked → ℕ
 atFault (Accepted k) = neither
-atFault (Unread f k) = theList
+atFault (Unread f k c) = theList
 atFault Short = theSheet
 atFault (Refused f k) = theSheet
 
@@ -70,20 +70,20 @@ heldBy text list s = cond (eqb text theList) list s
 
 -- ---- a check's numbers
 
-abbrev pub refusedIn : ℕ → Refusal → ℕ → Numbers
-refusedIn text r k = let t = told r k in record { number = t .number; line = t .line; groups = 0; text = text }
+abbrev pub refusedIn : ℕ → Refusal → ℕ → ℕ → Numbers
+refusedIn text r k c = let t = toldAt r k c in record { number = t .number; line = t .line; column = t .column; groups = 0; text = text }
 
 abbrev pub numbersOf : Checked → Numbers
-numbersOf (Accepted k) = record { number = accepted; line = 0; groups = k; text = atFault (Accepted k) }
-numbersOf (Unread f k) = refusedIn (atFault (Unread f k)) (listRefusalOf f) k
-numbersOf Short = refusedIn (atFault Short) refusal.Short 0
-numbersOf (Refused f k) = refusedIn (atFault (Refused f k)) (refusalOf f) k
+numbersOf (Accepted k) = record { number = accepted; line = 0; column = 0; groups = k; text = atFault (Accepted k) }
+numbersOf (Unread f k c) = refusedIn (atFault (Unread f k c)) (listRefusalOf f) k c
+numbersOf Short = refusedIn (atFault Short) refusal.Short 0 0
+numbersOf (Refused f k) = refusedIn (atFault (Refused f k)) (refusalOf f) k 0
 
 -- ---- checking
 
 abbrev pub written : Checked → ℕ → List ℕ → List ℕ → List ℕ
 written (Accepted k) n c old = take n c ++ drop n old
-written (Unread f k) n c old = old
+written (Unread f k j) n c old = old
 written Short n c old = old
 written (Refused f k) n c old = old
 
@@ -91,7 +91,7 @@ abbrev pub writtenOf : Outcome → List ℕ → List ℕ
 writtenOf o old = written (o .answer) (o .entries) (o .colours) old
 
 pub record CheckPromiseUpTo (most longest : ℕ) (list s old : List ℕ) (a : Checked) (new : List ℕ) : Type 0 where
-  -- accepted with k, or refused with the first refusal that the texts have, its text and its line
+  -- accepted with k, or refused with the first refusal that the texts have, its text, its line and its column
   pub answer : a ≡ checkUpTo most longest list s (length old) .answer
   -- accepted: bytes 0 to n - 1 are the group numbers, the others as they were; refused: nothing is written
   pub lent : new ≡ writtenOf (checkUpTo most longest list s (length old)) old

@@ -25,11 +25,11 @@ pub enum SheetFault {
     Extra,
 }
 
-// Accepted, with k; refused for the list, with its own refusal and line; too few colour bytes; or refused for the sheet, with
+// Accepted, with k; refused for the list, with its own refusal, line and column; too few colour bytes; or refused for the sheet, with
 // its line (0 where none is named).
 pub enum Checked {
     Accepted(usize),
-    Unread(lists::Fault, usize),
+    Unread(lists::Fault, usize, usize),
     Short,
     Refused(SheetFault, usize),
 }
@@ -45,6 +45,7 @@ pub struct Outcome {
 pub struct Numbers {
     pub number: usize,
     pub line: usize,
+    pub column: usize,
     pub groups: usize,
     pub text: usize,
 }
@@ -332,7 +333,7 @@ pub fn check(list: &[u8], sheet: &[u8], room: usize) -> Outcome
     let found = lists::gather(list, 64);
     let answer = found.answer;
     match answer {
-        lists::Reading::Refused(why, line) => without(Checked::Unread(why, line)),
+        lists::Reading::Refused(why, line, column) => without(Checked::Unread(why, line, column)),
         lists::Reading::Read(n) => {
             if room < n {
                 return without(Checked::Short);
@@ -383,13 +384,14 @@ pub fn refusal_of(why: SheetFault) -> Refusal
     }
 }
 
-// The numbers of a refusal of this text, with its line where the table names one.
-fn refused_in(text: usize, why: Refusal, line: usize) -> Numbers
-    ensures { λ r. ⌜ r ≡ refusedIn text why line ⌝ }
+// The numbers of a refusal of this text, with its line and its column where the table names them.
+fn refused_in(text: usize, why: Refusal, line: usize, column: usize) -> Numbers
+    ensures { λ r. ⌜ r ≡ refusedIn text why line column ⌝ }
 {
     Numbers {
         number: refusals::number(why),
         line: refusals::line(why, line),
+        column: refusals::column(why, column),
         groups: 0,
         text,
     }
@@ -403,12 +405,15 @@ pub fn numbers_of(answer: Checked) -> Numbers
         Checked::Accepted(k) => Numbers {
             number: 0,
             line: 0,
+            column: 0,
             groups: k,
             text: NEITHER,
         },
-        Checked::Unread(why, line) => refused_in(LIST, lists::refusal_of(why), line),
-        Checked::Short => refused_in(SHEET, Refusal::Short, 0),
-        Checked::Refused(why, line) => refused_in(SHEET, refusal_of(why), line),
+        Checked::Unread(why, line, column) => {
+            refused_in(LIST, lists::refusal_of(why), line, column)
+        }
+        Checked::Short => refused_in(SHEET, Refusal::Short, 0, 0),
+        Checked::Refused(why, line) => refused_in(SHEET, refusal_of(why), line, 0),
     }
 }
 

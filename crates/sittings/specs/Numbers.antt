@@ -54,7 +54,12 @@ walkNumbers a = record {
 }
 
 abbrev pub readNumbers : Reading → ReadNumbers
-readNumbers a = record { refusal = lists.readNumbers a .number; line = lists.readNumbers a .place; entries = lists.readNumbers a .size }
+readNumbers a = record {
+  refusal = lists.readNumbers a .number;
+  line = lists.readNumbers a .place;
+  column = lists.readNumbers a .column;
+  entries = lists.readNumbers a .size;
+}
 
 abbrev pub listNumbers : list.Written → WriteNumbers
 listNumbers a = record { refusal = lists.writeNumbers a .number; place = lists.writeNumbers a .place; length = lists.writeNumbers a .size }
@@ -66,6 +71,7 @@ abbrev pub checkNumbers : Checked → CheckNumbers
 checkNumbers a = record {
   refusal = sheets.numbersOf a .number;
   line = sheets.numbersOf a .line;
+  column = sheets.numbersOf a .column;
   groups = sheets.numbersOf a .groups;
   text = sheets.numbersOf a .text;
 }

@@ -97,7 +97,7 @@ pub fn fault_part(list: &[u8], sheet: &[u8], room: usize) -> sheets::Part
 }
 
 // Writes what slotsheet prints for a clash text to the lent bytes: the sheet of its fewest sittings, by a walk with a budget of 1,000,000, or
-// "refused R line L" and a line feed.
+// "refused R line L" and a line feed, with " column C" before it where there is a column.
 pub fn answer(text: &[u8], out: &mut [u8]) -> Printed
     ensures { λ r. ⌜ AnswerPromise (now (text .entry)) (now (out .entry)) r (now (out .exit)) ⌝ }
 {

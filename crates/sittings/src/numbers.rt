@@ -5,6 +5,7 @@ use clashes::Verdict;
 use lists::Reading;
 use lists::refusal_of;
 use refusals::Refusal;
+use refusals::column;
 use refusals::line;
 use refusals::number;
 use sheets::Checked;
@@ -34,10 +35,12 @@ pub struct WalkNumbers {
     pub leaves: u64,
 }
 
+// `column` is 0 unless the refusal is one of a line's shape: 10, 21, 22 or 23. So in `CheckNumbers`.
 #[repr(C)]
 pub struct ReadNumbers {
     pub refusal: usize,
     pub line: usize,
+    pub column: usize,
     pub entries: usize,
 }
 
@@ -54,6 +57,7 @@ pub struct WriteNumbers {
 pub struct CheckNumbers {
     pub refusal: usize,
     pub line: usize,
+    pub column: usize,
     pub groups: usize,
     pub text: usize,
 }
@@ -192,13 +196,15 @@ pub fn of_reading(a: Reading) -> ReadNumbers
         Reading::Read(entries) => ReadNumbers {
             refusal: 0,
             line: 0,
+            column: 0,
             entries,
         },
-        Reading::Refused(why, at) => {
+        Reading::Refused(why, at, spot) => {
             let r = refusal_of(why);
             ReadNumbers {
                 refusal: number(r),
                 line: line(r, at),
+                column: column(r, spot),
                 entries: 0,
             }
         }
@@ -260,6 +266,7 @@ pub fn of_check(a: Checked) -> CheckNumbers
     CheckNumbers {
         refusal: n.number,
         line: n.line,
+        column: n.column,
         groups: n.groups,
         text: n.text,
     }

@@ -12,6 +12,7 @@ use borrow.Author.Tests.{le-leb, lt-leb}
 use lib.ListN.{length, take, drop}
 use lib.Seq.{take-at, drop-at}
 use Rattle.clashes.specs.Matrix.{matrix}
+use Rattle.lines.specs.Text.{Text, linesOf}
 use Rattle.lists.specs.Read.{readUpTo}
 use Rattle.lists.specs.Promise.{numberOf as listNumberOf}
 use Rattle.lists.specs.declared.Fault.{Fault}
@@ -27,6 +28,7 @@ use Rattle.sheets.specs.declared.Checked.{Checked}
 use Rattle.sheets.specs.declared.Checked.the-variants.{Accepted, Unread, Short, Refused}
 use Rattle.sheets.specs.declared.Outcome.{Outcome}
 use Rattle.texts.specs.Listed.{ListOf}
+use Rattle.texts.specs.ListColumns.{ColumnOf}
 use Rattle.texts.specs.ListFaults.{ListRefused}
 use Rattle.texts.specs.Sheets.{SheetOf}
 use Rattle.texts.specs.SheetFaults.{SheetRefused}
@@ -39,22 +41,26 @@ use Rattle.texts.proofs.SheetRefused.{SheetMeans, sheet-means}
 use Rattle.texts.proofs.SheetMeaning.{sheet-taken, sheet-returned}
 
 -- a refusal in numbers, of one of the two texts
-abbrev pub refusedOf : ℕ → ℕ → ℕ → Numbers
-refusedOf text f k = record { number = f; line = k; groups = 0; text = text }
+abbrev pub refusedOf : ℕ → ℕ → ℕ → ℕ → Numbers
+refusedOf text f k c = record { number = f; line = k; column = c; groups = 0; text = text }
 
--- 18 names no line
-list-numbers : (f : Fault) (k : ℕ) → (listNumberOf f ≡ listNumberOf list.Long → k ≡ 0) → numbersOf (Unread f k) ≡ refusedOf theList (listNumberOf f) k
-list-numbers list.Line k h = refl
-list-numbers list.Headless k h = refl
-list-numbers list.Second k h = refl
-list-numbers list.Size k h = refl
-list-numbers list.Room k h = refl
-list-numbers list.Vertex k h = refl
-list-numbers list.Loop k h = refl
-list-numbers list.Count k h = refl
-list-numbers list.Long k h = ap (refusedOf theList 18) (sym (h refl))
+-- 18 names no line, and only a list's fault of shape a column
+list-numbers : (t : Text) (f : Fault) (k c : ℕ) → (listNumberOf f ≡ listNumberOf list.Long → k ≡ 0) → ColumnOf t (listNumberOf f) k c
+    → numbersOf (Unread f k c) ≡ refusedOf theList (listNumberOf f) k c
+list-numbers t list.Line k c h w = refl
+list-numbers t list.Digit k c h w = refl
+list-numbers t list.Space k c h w = refl
+list-numbers t list.Unended k c h w = refl
+list-numbers t list.Headless k c h w = ap (refusedOf theList 11 k) (sym w)
+list-numbers t list.Second k c h w = ap (refusedOf theList 12 k) (sym w)
+list-numbers t list.Size k c h w = ap (refusedOf theList 13 k) (sym w)
+list-numbers t list.Room k c h w = ap (refusedOf theList 17 k) (sym w)
+list-numbers t list.Vertex k c h w = ap (refusedOf theList 14 k) (sym w)
+list-numbers t list.Loop k c h w = ap (refusedOf theList 15 k) (sym w)
+list-numbers t list.Count k c h w = ap (refusedOf theList 16 k) (sym w)
+list-numbers t list.Long k c h w = ap (λ (j : ℕ). refusedOf theList 18 j 0) (sym (h refl)) ∙ ap (refusedOf theList 18 k) (sym w)
 
-sheet-numbers : (f : SheetFault) (k : ℕ) → (numberOf f ≡ numberOf Long → k ≡ 0) → numbersOf (Refused f k) ≡ refusedOf theSheet (numberOf f) k
+sheet-numbers : (f : SheetFault) (k : ℕ) → (numberOf f ≡ numberOf Long → k ≡ 0) → numbersOf (Refused f k) ≡ refusedOf theSheet (numberOf f) k 0
 sheet-numbers Line k h = refl
 sheet-numbers Member k h = refl
 sheet-numbers Order k h = refl
@@ -63,7 +69,7 @@ sheet-numbers Clash k h = refl
 sheet-numbers Ends k h = refl
 sheet-numbers Missing k h = refl
 sheet-numbers Extra k h = refl
-sheet-numbers Long k h = ap (refusedOf theSheet 18) (sym (h refl))
+sheet-numbers Long k h = ap (λ (j : ℕ). refusedOf theSheet 18 j 0) (sym (h refl))
 
 -- ---- the three ways of a check
 
@@ -78,12 +84,12 @@ module _ (most longest : ℕ) (list s : List ℕ) (room : ℕ) where
     crowd : room < n
     same : checkUpTo most longest list s room ≡ withoutUpTo most Short
 
-  record Unopened (f : Fault) (k : ℕ) : Type 0 where
-    unlisted : ListRefused most longest list most (listNumberOf f) k
-    same : checkUpTo most longest list s room ≡ withoutUpTo most (Unread f k)
+  record Unopened (f : Fault) (k c : ℕ) : Type 0 where
+    unlisted : ListRefused most longest list most (listNumberOf f) k c
+    same : checkUpTo most longest list s room ≡ withoutUpTo most (Unread f k c)
 
   abbrev Ways : Type 0
-  Ways = ((f : Fault) × (k : ℕ) × Unopened f k) ⊎ (((n : ℕ) × (rows : List ℕ) × Crowded n rows) ⊎ ((n : ℕ) × (rows : List ℕ) × Opened n rows))
+  Ways = ((f : Fault) × (k c : ℕ) × Unopened f k c) ⊎ (((n : ℕ) × (rows : List ℕ) × Crowded n rows) ⊎ ((n : ℕ) × (rows : List ℕ) × Opened n rows))
 
   abbrev rows-read : List ℕ
   rows-read = readUpTo most longest list most .rows
@@ -115,7 +121,7 @@ module _ (most longest : ℕ) (list s : List ℕ) (room : ℕ) where
 
       go : (r : Reading) → readUpTo most longest list most .answer ≡ r → Ways
       go (Read n) e = pick n e (decLt room n)
-      go (Unreadable f k) e = inl (f, k, record { unlisted = list-refused most longest list most f k e; same = answered (Unreadable f k) e })
+      go (Unreadable f k c) e = inl (f, k, c, record { unlisted = list-refused most longest list most f k c e; same = answered (Unreadable f k c) e })
 
   -- ---- from the words
 
@@ -150,39 +156,46 @@ module _ (most longest : ℕ) (list s old new : List ℕ) where
               ∙ ap (λ (d : List ℕ). d ++ drop n old) (r .1),
         )
 
-    pub check-unread-so : (f k : ℕ) → ListRefused most longest list most f k → numbersOf a ≡ refusedOf theList f k
-    check-unread-so f k h =
-        let r = list-returned most longest list most f k h in
-        ap numbersOf (answer-is _ (answered most longest list s (length old) (Unreadable (r .0) k) (r .1)))
-        ∙ list-numbers (r .0) k (λ e. subst (λ (g : ℕ). ListRefused most longest list most g k) (sym (r .2) ∙ e) h .0)
-        ∙ ap (λ (g : ℕ). refusedOf theList g k) (r .2)
+    pub check-unread-so : (f k c : ℕ) → ListRefused most longest list most f k c → numbersOf a ≡ refusedOf theList f k c
+    check-unread-so f k c h =
+        let r = list-returned most longest list most f k c h in
+        let g = subst (λ (g : ℕ). ListRefused most longest list most g k c) (sym (r .2)) h in
+        ap numbersOf (answer-is _ (answered most longest list s (length old) (Unreadable (r .0) k c) (r .1)))
+        ∙ list-numbers (linesOf list) (r .0) k c (λ e. subst (λ (g : ℕ). ListRefused most longest list most g k c) (sym (r .2) ∙ e) h .0 .0) (g .1)
+        ∙ ap (λ (g : ℕ). refusedOf theList g k c) (r .2)
 
     pub check-short-so : (n : ℕ) (rows : List ℕ) → ListOf most longest list n rows → length old < n → a ≡ Short
     check-short-so n rows l h = answer-is _ (crowded-so most longest list s (length old) n rows l h .same)
 
     pub check-refused-so : (n : ℕ) (rows : List ℕ) → ListOf most longest list n rows → n ≤ length old → (f k : ℕ) → SheetRefused longest n (matrix rows) s f k
-        → numbersOf a ≡ refusedOf theSheet f k
+        → numbersOf a ≡ refusedOf theSheet f k 0
     check-refused-so n rows l h f k q =
         let r = sheet-returned n (matrix rows) longest s most f k q in
         ap numbersOf (answer-is _ (opened-so most longest list s (length old) n rows l h .same) ∙ r .1)
         ∙ sheet-numbers (r .0) k (λ e. subst (λ (g : ℕ). SheetRefused longest n (matrix rows) s g k) (sym (r .2) ∙ e) q .0)
-        ∙ ap (λ (g : ℕ). refusedOf theSheet g k) (r .2)
+        ∙ ap (λ (g : ℕ). refusedOf theSheet g k 0) (r .2)
 
   -- a refused check leaves the lent bytes
-  pub check-unread : (f : Fault) (k : ℕ) → CheckPromiseUpTo most longest list s old (Unread f k) new → ListRefused most longest list most (listNumberOf f) k × (new ≡ old)
-  check-unread f k x =
+  pub check-unread : (f : Fault) (k c : ℕ) → CheckPromiseUpTo most longest list s old (Unread f k c) new
+      → ListRefused most longest list most (listNumberOf f) k c × (new ≡ old)
+  check-unread f k c x =
       ⊎-elim
-      (λ w. let e : Unread f k ≡ Unread (w .0) (w .1) = answer-is _ x _ (w .2 .same) in let p : w .0 ≡ f = cc in let q : w .1 ≡ k = cc in (
-        subst (λ (g : Fault). ListRefused most longest list most (listNumberOf g) k) p (subst (ListRefused most longest list most (listNumberOf (w .0))) q (w .2 .unlisted)),
-        lent-is _ x _ (w .2 .same),
+      (λ w. let e : Unread f k c ≡ Unread (w .0) (w .1) (w .2) = answer-is _ x _ (w .3 .same) in
+      let p : w .0 ≡ f = cc in
+      let q : w .1 ≡ k = cc in
+      let r : w .2 ≡ c = cc in (
+        subst (λ (g : Fault). ListRefused most longest list most (listNumberOf g) k c) p
+            (subst (λ (j : ℕ). ListRefused most longest list most (listNumberOf (w .0)) j c) q
+            (subst (ListRefused most longest list most (listNumberOf (w .0)) (w .1)) r (w .3 .unlisted))),
+        lent-is _ x _ (w .3 .same),
       ))
-      (λ v. ⊎-elim (λ w. let e : Unread f k ≡ Short = answer-is _ x _ (w .2 .same) in let z : _≡_ {A = ℕ} 0 1 = cc in absurd (omega arith))
+      (λ v. ⊎-elim (λ w. let e : Unread f k c ≡ Short = answer-is _ x _ (w .2 .same) in let z : _≡_ {A = ℕ} 0 1 = cc in absurd (omega arith))
       (λ w. absurd (subst (SheetMeans most (w .0) (matrix (w .1)) longest s) (sym (answer-is _ x _ (w .2 .same))) (sheet-means most (w .0) (matrix (w .1)) longest s))) v)
       (check-ways most longest list s (length old))
 
   pub check-short : CheckPromiseUpTo most longest list s old Short new → (n : ℕ) × (rows : List ℕ) × ListOf most longest list n rows × (length old < n) × (new ≡ old)
   check-short x =
-      ⊎-elim (λ w. let e : Short ≡ Unread (w .0) (w .1) = answer-is _ x _ (w .2 .same) in let z : _≡_ {A = ℕ} 0 1 = cc in absurd (omega arith))
+      ⊎-elim (λ w. let e : Short ≡ Unread (w .0) (w .1) (w .2) = answer-is _ x _ (w .3 .same) in let z : _≡_ {A = ℕ} 0 1 = cc in absurd (omega arith))
       (λ v. ⊎-elim (λ w. (w .0, w .1, w .2 .listed, w .2 .crowd, lent-is _ x _ (w .2 .same)))
       (λ w. absurd (subst (SheetMeans most (w .0) (matrix (w .1)) longest s) (sym (answer-is _ x _ (w .2 .same))) (sheet-means most (w .0) (matrix (w .1)) longest s))) v)
       (check-ways most longest list s (length old))
@@ -190,7 +203,7 @@ module _ (most longest : ℕ) (list s old new : List ℕ) where
   pub check-refused : (f : SheetFault) (k : ℕ) → CheckPromiseUpTo most longest list s old (Refused f k) new
       → (n : ℕ) × (rows : List ℕ) × ListOf most longest list n rows × (n ≤ length old) × SheetRefused longest n (matrix rows) s (numberOf f) k × (new ≡ old)
   check-refused f k x =
-      ⊎-elim (λ w. let e : Refused f k ≡ Unread (w .0) (w .1) = answer-is _ x _ (w .2 .same) in let z : _≡_ {A = ℕ} 0 1 = cc in absurd (omega arith))
+      ⊎-elim (λ w. let e : Refused f k ≡ Unread (w .0) (w .1) (w .2) = answer-is _ x _ (w .3 .same) in let z : _≡_ {A = ℕ} 0 1 = cc in absurd (omega arith))
       (λ v. ⊎-elim (λ w. let e : Refused f k ≡ Short = answer-is _ x _ (w .2 .same) in let z : _≡_ {A = ℕ} 0 1 = cc in absurd (omega arith))
       (λ w. let o = sheetUpTo most longest (w .0) (matrix (w .1)) s in let e = answer-is _ x o (w .2 .same) in (
         w .0,
@@ -205,7 +218,7 @@ module _ (most longest : ℕ) (list s old new : List ℕ) where
   pub check-accepted : (k : ℕ) → CheckPromiseUpTo most longest list s old (Accepted k) new
       → (n : ℕ) × (rows : List ℕ) × ListOf most longest list n rows × (n ≤ length old) × SheetOf longest n (matrix rows) s k (take n new) × (drop n new ≡ drop n old)
   check-accepted k x =
-      ⊎-elim (λ w. let e : Accepted k ≡ Unread (w .0) (w .1) = answer-is _ x _ (w .2 .same) in let z : _≡_ {A = ℕ} 0 1 = cc in absurd (omega arith))
+      ⊎-elim (λ w. let e : Accepted k ≡ Unread (w .0) (w .1) (w .2) = answer-is _ x _ (w .3 .same) in let z : _≡_ {A = ℕ} 0 1 = cc in absurd (omega arith))
       (λ v. ⊎-elim (λ w. let e : Accepted k ≡ Short = answer-is _ x _ (w .2 .same) in let z : _≡_ {A = ℕ} 0 1 = cc in absurd (omega arith))
       (λ w. open-way (w .0) (w .1) (w .2)) v)
       (check-ways most longest list s (length old))

@@ -3,7 +3,7 @@
 -- every lent memory, over the texts' lines as they stand; no reading is in the words that it is said with. They are in specs/:
 --
 --   ListOf most longest s n rows          (Listed)      : the text s is a list of n entries, and the n rows are its clashes
---   ListRefused most longest s room f k   (ListFaults)  : the text s is refused with the number f and the line k
+--   ListRefused most longest s room f k c (ListFaults)  : the text s is refused with the number f, the line k and the column c
 --   SheetOf longest n clash s k c         (Sheets)      : the sheet s is the text of c, a clash-free division of n entries into k groups
 --   SheetRefused longest n clash s f k    (SheetFaults) : the sheet s is refused with the number f and the line k
 --
@@ -46,30 +46,31 @@ module _ (s old new : List ℕ) where
       → (a ≡ Read n) × (new ≡ rows ++ drop n old)
   list-taken = reading.read-taken 64 65536 s old new
 
-  -- Refused: line k has this fault, no line before it has any, and none that comes before it in the order is in line k; or so at the end; or 18. Nothing
+  -- Refused: line k has this fault, no line before it has any, and none that comes before it in the order is in line k; or so at the end; or 18. The column
+  -- of 10, 21, 22 and 23 is that of the first byte at which line k can no longer begin any permitted line, or one past its end; any other has 0. Nothing
   -- lent is written.
-  pub list-refused : (f : Fault) (k : ℕ) → ReadPromise s old (Unreadable f k) new
-      → ListRefused 64 65536 s (length old) (numberOf (listRefusal f)) k × (new ≡ old)
+  pub list-refused : (f : Fault) (k c : ℕ) → ReadPromise s old (Unreadable f k c) new
+      → ListRefused 64 65536 s (length old) (numberOf (listRefusal f)) k c × (new ≡ old)
   list-refused = reading.read-refused 64 65536 s old new
 
-  -- Every text that the words refuse is refused with that number and that line.
-  pub list-returned : (a : Reading) → ReadPromise s old a new → (f k : ℕ) → ListRefused 64 65536 s (length old) f k
-      → readNumbers a ≡ record { number = f; place = k; size = 0 }
+  -- Every text that the words refuse is refused with that number, that line and that column.
+  pub list-returned : (a : Reading) → ReadPromise s old a new → (f k c : ℕ) → ListRefused 64 65536 s (length old) f k c
+      → readNumbers a ≡ record { number = f; place = k; column = c; size = 0 }
   list-returned = reading.read-returned 64 65536 s old new
 
--- The words leave one list, or one refusal and one line, and not both.
+-- The words leave one list, or one refusal, one line and one column, and not both.
 module _ (most longest : ℕ) (s : List ℕ) where
   pub one-list : (n m : ℕ) (rows cols : List ℕ) → ListOf most longest s n rows → ListOf most longest s m cols → (n ≡ m) × (rows ≡ cols)
   one-list = lists.list-one most longest s
 
-  pub one-list-refusal : (room f g k j : ℕ) → ListRefused most longest s room f k → ListRefused most longest s room g j → (f ≡ g) × (k ≡ j)
+  pub one-list-refusal : (room f g k j c d : ℕ) → ListRefused most longest s room f k c → ListRefused most longest s room g j d → (f ≡ g) × (k ≡ j) × (c ≡ d)
   one-list-refusal = lists.list-refusal-one most longest s
 
-  pub list-or-refusal : (n : ℕ) (rows : List ℕ) → ListOf most longest s n rows → (room : ℕ) → n ≤ room → (f k : ℕ) → ¬ ListRefused most longest s room f k
+  pub list-or-refusal : (n : ℕ) (rows : List ℕ) → ListOf most longest s n rows → (room : ℕ) → n ≤ room → (f k c : ℕ) → ¬ ListRefused most longest s room f k c
   list-or-refusal = lists.list-unrefused most longest s
 
   -- With as many rows lent as a list can have entries, 17 cannot arise.
-  pub never-room : (k : ℕ) → ¬ ListRefused most longest s most (numberOf Room) k
+  pub never-room : (k c : ℕ) → ¬ ListRefused most longest s most (numberOf Room) k c
   never-room = lists.never-room most longest s
 
 -- ---- checking a sheet against a clash text
@@ -82,7 +83,7 @@ module _ (list s old new : List ℕ) where
   check-accepted = checking.check-accepted 64 65536 list s old new
 
   -- Not accepted: the clash text is refused, the colour bytes are fewer than n, or the sheet is refused, in this order. Nothing lent is written.
-  pub check-unread : (f : Fault) (k : ℕ) → CheckPromise list s old (Unread f k) new → ListRefused 64 65536 list 64 (numberOf (listRefusal f)) k × (new ≡ old)
+  pub check-unread : (f : Fault) (k c : ℕ) → CheckPromise list s old (Unread f k c) new → ListRefused 64 65536 list 64 (numberOf (listRefusal f)) k c × (new ≡ old)
   check-unread = checking.check-unread 64 65536 list s old new
 
   pub check-short : CheckPromise list s old Short new → (n : ℕ) × (rows : List ℕ) × ListOf 64 65536 list n rows × (length old < n) × (new ≡ old)
@@ -93,8 +94,8 @@ module _ (list s old new : List ℕ) where
   check-refused = checking.check-refused 64 65536 list s old new
 
   module _ (a : Checked) (p : CheckPromise list s old a new) where
-    -- Each of these wherever the words say so, with that number, that line, and which text is at fault.
-    pub check-unread-so : (f k : ℕ) → ListRefused 64 65536 list 64 f k → numbersOf a ≡ record { number = f; line = k; groups = 0; text = theList }
+    -- Each of these wherever the words say so, with that number, that line, that column, and which text is at fault.
+    pub check-unread-so : (f k c : ℕ) → ListRefused 64 65536 list 64 f k c → numbersOf a ≡ record { number = f; line = k; column = c; groups = 0; text = theList }
     check-unread-so = checking.check-unread-so 64 65536 list s old new a p
 
     module _ (n : ℕ) (rows : List ℕ) (l : ListOf 64 65536 list n rows) where
@@ -102,7 +103,7 @@ module _ (list s old new : List ℕ) where
       check-short-so = checking.check-short-so 64 65536 list s old new a p n rows l
 
       pub check-refused-so : n ≤ length old → (f k : ℕ) → SheetRefused 65536 n (matrix rows) s f k
-          → numbersOf a ≡ record { number = f; line = k; groups = 0; text = theSheet }
+          → numbersOf a ≡ record { number = f; line = k; column = 0; groups = 0; text = theSheet }
       check-refused-so = checking.check-refused-so 64 65536 list s old new a p n rows l
 
       -- Every sheet that is the text of a clash-free division is accepted, with it.

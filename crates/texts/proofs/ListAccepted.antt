@@ -20,6 +20,7 @@ use Rattle.sets.proofs.SetLaws.{has-none}
 use Rattle.sets.proofs.TestLaws.{T-ext}
 use Rattle.clashes.specs.Matrix.{matrix}
 use Rattle.lines.specs.Text.{Text, done, unended, ended, linesOf}
+use Rattle.lists.specs.Expect.{spotOf}
 use Rattle.lists.specs.Shape.{shapeOf, isE}
 use Rattle.lists.specs.Read.{start, noRowsUpTo, stepUpTo, afterUpTo, readFromUpTo, readUpTo}
 use Rattle.lists.specs.declared.Shape.{Shape}
@@ -94,7 +95,7 @@ front-header most room l t n m w e z f d h hn hm hc g bare r = record {
 -- what reading finds, where it accepts
 abbrev Fronted : ℕ → ℕ → Text → List ℕ → Reading → Type 0
 Fronted most room t w (Read n) = Front most room t n w
-Fronted most room t w (Refused f k) = Unit {0}
+Fronted most room t w (Refused f k c) = Unit {0}
 
 abbrev FrontOf : ℕ → ℕ → Text → Found → Type 0
 FrontOf most room t x = Fronted most room t (x .rows) (x .answer)
@@ -103,12 +104,12 @@ module _ (most room : ℕ) where
   fronted-more : (l : List ℕ) (t : Text) (w : List ℕ) (a : Reading) → ((n : ℕ) → Front most room t n w → Front most room (ended l t) n w)
       → Fronted most room t w a → Fronted most room (ended l t) w a
   fronted-more l t w (Read n) f x = f n x
-  fronted-more l t w (Refused e k) f x = tt
+  fronted-more l t w (Refused e k c) f x = tt
 
   fronted-body : (l : List ℕ) (t : Text) (h : Head) (g w : List ℕ) (a : Reading) → ((n : ℕ) → Body t h g n w → Front most room (ended l t) n w)
       → Bodied t h g w a → Fronted most room (ended l t) w a
   fronted-body l t h g w (Read n) f x = f n x
-  fronted-body l t h g w (Refused e k) f x = tt
+  fronted-body l t h g w (Refused e k c) f x = tt
 
   front : (t : Text) (line : ℕ) (h : Head) (g : List ℕ) → h .seen ≡ false → length g ≡ most → ((i j : ℕ) → T (matrix g i j) → ⊥)
       → FrontOf most room t (readFromUpTo most t room line h g)
@@ -125,7 +126,7 @@ module _ (most room : ℕ) where
       go : (s : Shape) → shapeOf l ≡ s
           → ((h : Head) (g : List ℕ) → h .seen ≡ false → length g ≡ most → ((i j : ℕ) → T (matrix g i j) → ⊥)
           → FrontOf most room t (readFromUpTo most t room (line + 1) h g))
-          → FrontOf most room (ended l t) (afterUpTo most (stepUpTo most h room s) g line (readFromUpTo most t room (line + 1)))
+          → FrontOf most room (ended l t) (afterUpTo most (stepUpTo most h room (spotOf l) s) g line (readFromUpTo most t room (line + 1)))
       go Bad e r = tt
       go Comment e r = fronted-more l t _ (readFromUpTo most t room (line + 1) h g .answer) (λ n x. front-comment most room l t n _ e x) (r h g q z bare)
       go (P c d) e r =
@@ -156,11 +157,11 @@ none-bare most a b h = subst T (ap (λ (r : ℕ). has r b) (row most a) ∙ has-
 module _ (most longest : ℕ) where
   abbrev Shown : List ℕ → ℕ → List ℕ → Reading → Type 0
   Shown s room w (Read n) = (length s ≤ longest) × Front most room (linesOf s) n w
-  Shown s room w (Refused f k) = Unit {0}
+  Shown s room w (Refused f k c) = Unit {0}
 
   shown : (s : List ℕ) (room : ℕ) → length s ≤ longest → (w : List ℕ) (a : Reading) → Fronted most room (linesOf s) w a → Shown s room w a
   shown s room h w (Read n) x = (h, x)
-  shown s room h w (Refused f k) x = tt
+  shown s room h w (Refused f k c) x = tt
 
   front-accepted : (s : List ℕ) (room n : ℕ) → readUpTo most longest s room .answer ≡ Read n
       → (length s ≤ longest) × Front most room (linesOf s) n (readUpTo most longest s room .rows)

@@ -15,6 +15,7 @@ use lib.ListN.{length}
 use Rattle.sets.specs.Lists.{bit}
 use Rattle.clashes.specs.Matrix.{matrix}
 use Rattle.lines.specs.Text.{Text, done, unended, ended}
+use Rattle.lists.specs.Expect.{spotOf}
 use Rattle.lists.specs.Shape.{shapeOf, isE}
 use Rattle.lists.specs.Read.{inside, join, stepUpTo, afterUpTo, readFromUpTo}
 use Rattle.lists.specs.declared.Shape.{Shape}
@@ -144,7 +145,7 @@ body-edge l t h g n w u v e f p r = record {
 
 abbrev pub Bodied : Text → Head → List ℕ → List ℕ → Reading → Type 0
 Bodied t h g w (Read n) = Body t h g n w
-Bodied t h g w (Refused f k) = Unit {0}
+Bodied t h g w (Refused f k c) = Unit {0}
 
 abbrev pub BodyOf : Text → Head → List ℕ → Found → Type 0
 BodyOf t h g x = Bodied t h g (x .rows) (x .answer)
@@ -153,7 +154,7 @@ BodyOf t h g x = Bodied t h g (x .rows) (x .answer)
 bodied-more : (l : List ℕ) (t : Text) (h x : Head) (g y w : List ℕ) (a : Reading) → ((n : ℕ) → Body t x y n w → Body (ended l t) h g n w)
     → Bodied t x y w a → Bodied (ended l t) h g w a
 bodied-more l t h x g y w (Read n) f b = f n b
-bodied-more l t h x g y w (Refused e k) f b = tt
+bodied-more l t h x g y w (Refused e k c) f b = tt
 
 module _ (most room : ℕ) where
   pub body : (t : Text) (line : ℕ) (h : Head) (g : List ℕ) → h .seen ≡ true → h .n ≤ length g → BodyOf t h g (readFromUpTo most t room line h g)
@@ -165,7 +166,7 @@ module _ (most room : ℕ) where
     where
       go : (s : Shape) → shapeOf l ≡ s
           → ((h : Head) (g : List ℕ) → h .seen ≡ true → h .n ≤ length g → BodyOf t h g (readFromUpTo most t room (line + 1) h g))
-          → BodyOf (ended l t) h g (afterUpTo most (stepUpTo most h room s) g line (readFromUpTo most t room (line + 1)))
+          → BodyOf (ended l t) h g (afterUpTo most (stepUpTo most h room (spotOf l) s) g line (readFromUpTo most t room (line + 1)))
       go Bad e r = tt
       go Comment e r = bodied-more l t h h g g _ (readFromUpTo most t room (line + 1) h g .answer) (λ n x. body-comment l t h g n _ e x) (r h g q f)
       go (P c d) e r =

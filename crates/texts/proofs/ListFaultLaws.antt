@@ -11,7 +11,7 @@ use lib.Dec.{eqb}
 use Rattle.sets.specs.Lists.{In}
 use Rattle.lines.specs.Text.{Text}
 use Rattle.lists.specs.declared.Fault.{Fault}
-use Rattle.lists.specs.declared.Fault.the-variants.{Line, Headless, Second, Size, Room, Vertex, Loop, Count, Long}
+use Rattle.lists.specs.declared.Fault.the-variants.{Line, Headless, Second, Size, Room, Vertex, Loop, Count, Long, Digit, Space, Unended}
 use Rattle.lists.specs.Promise.{numberOf}
 use Rattle.texts.specs.Faults.{Clean, InLine, AtEnd}
 use Rattle.texts.specs.ListFaults.{Has, listOrder, Lacks}
@@ -24,12 +24,15 @@ Found most t room f k = InLine t (Has most t room) listOrder (numberOf f) k ⊎ 
 pub has-fault : (most : ℕ) (t : Text) (room k f : ℕ) → Has most t room k f → (g : Fault) × (f ≡ numberOf g)
 has-fault most t room k f h =
     if-cases (eqb f 10) h (λ e _. (Line, eqb-true f 10 e))
+    (λ _ h. if-cases (eqb f 21) h (λ e _. (Digit, eqb-true f 21 e))
+    (λ _ h. if-cases (eqb f 22) h (λ e _. (Space, eqb-true f 22 e))
+    (λ _ h. if-cases (eqb f 23) h (λ e _. (Unended, eqb-true f 23 e))
     (λ _ h. if-cases (eqb f 11) h (λ e _. (Headless, eqb-true f 11 e))
     (λ _ h. if-cases (eqb f 12) h (λ e _. (Second, eqb-true f 12 e))
     (λ _ h. if-cases (eqb f 13) h (λ e _. (Size, eqb-true f 13 e))
     (λ _ h. if-cases (eqb f 17) h (λ e _. (Room, eqb-true f 17 e))
     (λ _ h. if-cases (eqb f 14) h (λ e _. (Vertex, eqb-true f 14 e))
-    (λ _ h. if-cases (eqb f 15) h (λ e _. (Loop, eqb-true f 15 e)) (λ _ h. absurd h)))))))
+    (λ _ h. if-cases (eqb f 15) h (λ e _. (Loop, eqb-true f 15 e)) (λ _ h. absurd h))))))))))
 
 pub has-known : (most : ℕ) (t : Text) (room k f : ℕ) → Has most t room k f → In f listOrder
 has-known most t room k f h =
@@ -38,6 +41,9 @@ has-known most t room k f h =
   where
     go : (g : Fault) → Has most t room k (numberOf g) → In (numberOf g) listOrder
     go Line x = in-order listOrder 10 tt
+    go Digit x = in-order listOrder 21 tt
+    go Space x = in-order listOrder 22 tt
+    go Unended x = in-order listOrder 23 tt
     go Headless x = in-order listOrder 11 tt
     go Second x = in-order listOrder 12 tt
     go Size x = in-order listOrder 13 tt

@@ -17,13 +17,16 @@ use Rattle.lists.specs.Shape.{shapeOf, isE}
 use Rattle.lists.specs.declared.Shape.{Shape}
 use Rattle.lists.specs.declared.Shape.the-variants.{Comment, P, E, Bad}
 use Rattle.lists.specs.declared.Fault.{Fault}
-use Rattle.lists.specs.declared.Fault.the-variants.{Line, Headless, Second, Size, Room, Vertex, Loop, Count, Long}
+use Rattle.lists.specs.declared.Fault.the-variants.{Line, Headless, Second, Size, Room, Vertex, Loop, Count, Long, Digit, Space, Unended as NoFeed}
 use Rattle.lists.specs.declared.Head.{Head}
+use Rattle.lists.specs.Expect.{ofShape, spotOf}
 use Rattle.lists.specs.Promise.{numberOf}
+use Rattle.lists.proofs.Columns.{spot-shape}
 use Rattle.texts.specs.Faults.{Unended, Outside, place, Clean}
 use Rattle.texts.specs.Listed.{At, edgeLines}
 use Rattle.texts.specs.ListFaults.{PBefore, Has, listOrder}
 use Rattle.texts.proofs.ListFaultLaws.{Found, has-fault, clean-of}
+use Rattle.texts.proofs.ListShapes.{shape-clean, bad-has, shape-found}
 use Rattle.texts.proofs.ListLines.{Rest, rest-next, unended-none}
 
 -- ---- what is known
@@ -67,11 +70,19 @@ module _ (most : ℕ) (t0 : Text) (room i : ℕ) (h : Head) (l : List ℕ) (t : 
 
   -- ---- by the line's shape
 
-  pub bad : shapeOf l ≡ Bad → Found most t0 room Line (i + 1)
-  bad e = stop Line (inl (subst (At t0 (i + 1)) e here)) (λ g p. absurd (omega arith))
+  pub bad : shapeOf l ≡ Bad → Found most t0 room (spotOf l .fault) (i + 1)
+  bad e =
+      shape-found most t0 room (i + 1) (spotOf l .fault) (spot-shape l) (bad-has t0 (i + 1) most room l (told .rest .lines 1 (omega arith)) here e)
+      (here .0) (λ j p. told .clean j (omega arith))
+
+  comment-not-bad : shapeOf l ≡ Comment → (f : Fault) → T (ofShape f) → ¬ Has most t0 room (i + 1) (numberOf f)
+  comment-not-bad e = shape-clean t0 (i + 1) most room (λ a. let z : _≡_ {A = ℕ} 0 1 = cc (same Bad a) in omega arith) closed
 
   clean-comment : shapeOf l ≡ Comment → (f : Fault) → ¬ Has most t0 room (i + 1) (numberOf f)
-  clean-comment e Line x = ⊎-elim (λ a. let z : _≡_ {A = ℕ} 0 1 = cc (same Bad a) in omega arith) closed x
+  clean-comment e Line x = comment-not-bad e Line tt x
+  clean-comment e Digit x = comment-not-bad e Digit tt x
+  clean-comment e Space x = comment-not-bad e Space tt x
+  clean-comment e NoFeed x = comment-not-bad e NoFeed tt x
   clean-comment e Headless x = let z : _≡_ {A = ℕ} 0 1 = cc (same _ (x .0 .2)) in omega arith
   clean-comment e Second x = let z : _≡_ {A = ℕ} 0 1 = cc (same _ (x .0 .2)) in omega arith
   clean-comment e Size x = let z : _≡_ {A = ℕ} 0 1 = cc (same _ (x .2)) in omega arith
@@ -89,8 +100,8 @@ module _ (most : ℕ) (t0 : Text) (room i : ℕ) (h : Head) (l : List ℕ) (t : 
     p-is : (a b : ℕ) → At t0 (i + 1) (P a b) → (a ≡ n) × (b ≡ m)
     p-is a b x = let q : P a b ≡ P n m = sym (same _ x) ∙ e in (cc, cc)
 
-    p-not-bad : ¬ Has most t0 room (i + 1) (numberOf Line)
-    p-not-bad x = ⊎-elim (λ a. let z : _≡_ {A = ℕ} 0 1 = cc (same Bad a) in omega arith) closed x
+    p-not-bad : (f : Fault) → T (ofShape f) → ¬ Has most t0 room (i + 1) (numberOf f)
+    p-not-bad = shape-clean t0 (i + 1) most room (λ a. let z : _≡_ {A = ℕ} 0 1 = cc (same Bad a) in omega arith) closed
 
     p-not-e : (u v : ℕ) → ¬ At t0 (i + 1) (E u v)
     p-not-e u v x = let z : _≡_ {A = ℕ} 0 1 = cc (same _ x) in omega arith
@@ -108,7 +119,10 @@ module _ (most : ℕ) (t0 : Text) (room i : ℕ) (h : Head) (l : List ℕ) (t : 
     second q = stop Second ((n, m, p-here), (h .n, one-before q)) low
       where
         low : (g : Fault) → place listOrder (numberOf g) < place listOrder (numberOf Second) → ¬ Has most t0 room (i + 1) (numberOf g)
-        low Line p x = p-not-bad x
+        low Line p x = p-not-bad Line tt x
+        low Digit p x = p-not-bad Digit tt x
+        low Space p x = p-not-bad Space tt x
+        low NoFeed p x = p-not-bad NoFeed tt x
         low Headless p x = p-not-e (x .0 .0) (x .0 .1) (x .0 .2)
         low Second p x = omega arith
         low Size p x = omega arith
@@ -122,7 +136,10 @@ module _ (most : ℕ) (t0 : Text) (room i : ℕ) (h : Head) (l : List ℕ) (t : 
     large q b = stop Size (n, m, p-here, b) low
       where
         low : (g : Fault) → place listOrder (numberOf g) < place listOrder (numberOf Size) → ¬ Has most t0 room (i + 1) (numberOf g)
-        low Line p x = p-not-bad x
+        low Line p x = p-not-bad Line tt x
+        low Digit p x = p-not-bad Digit tt x
+        low Space p x = p-not-bad Space tt x
+        low NoFeed p x = p-not-bad NoFeed tt x
         low Headless p x = p-not-e (x .0 .0) (x .0 .1) (x .0 .2)
         low Second p x = p-first q x
         low Size p x = omega arith
@@ -136,7 +153,10 @@ module _ (most : ℕ) (t0 : Text) (room i : ℕ) (h : Head) (l : List ℕ) (t : 
     roomless q b d = stop Room (n, m, p-here, d) low
       where
         low : (g : Fault) → place listOrder (numberOf g) < place listOrder (numberOf Room) → ¬ Has most t0 room (i + 1) (numberOf g)
-        low Line p x = p-not-bad x
+        low Line p x = p-not-bad Line tt x
+        low Digit p x = p-not-bad Digit tt x
+        low Space p x = p-not-bad Space tt x
+        low NoFeed p x = p-not-bad NoFeed tt x
         low Headless p x = p-not-e (x .0 .0) (x .0 .1) (x .0 .2)
         low Second p x = p-first q x
         low Size p x = p-small b x
@@ -147,7 +167,10 @@ module _ (most : ℕ) (t0 : Text) (room i : ℕ) (h : Head) (l : List ℕ) (t : 
         low Long p x = omega arith
 
     clean-p : h .seen ≡ false → n ≤ most → n ≤ room → (f : Fault) → ¬ Has most t0 room (i + 1) (numberOf f)
-    clean-p q b d Line x = p-not-bad x
+    clean-p q b d Line x = p-not-bad Line tt x
+    clean-p q b d Digit x = p-not-bad Digit tt x
+    clean-p q b d Space x = p-not-bad Space tt x
+    clean-p q b d NoFeed x = p-not-bad NoFeed tt x
     clean-p q b d Headless x = p-not-e (x .0 .0) (x .0 .1) (x .0 .2)
     clean-p q b d Second x = p-first q x
     clean-p q b d Size x = p-small b x
@@ -165,8 +188,8 @@ module _ (most : ℕ) (t0 : Text) (room i : ℕ) (h : Head) (l : List ℕ) (t : 
     e-is : (a b : ℕ) → At t0 (i + 1) (E a b) → (a ≡ u) × (b ≡ v)
     e-is a b x = let q : E a b ≡ E u v = sym (same _ x) ∙ e in (cc, cc)
 
-    e-not-bad : ¬ Has most t0 room (i + 1) (numberOf Line)
-    e-not-bad x = ⊎-elim (λ a. let z : _≡_ {A = ℕ} 0 1 = cc (same Bad a) in omega arith) closed x
+    e-not-bad : (f : Fault) → T (ofShape f) → ¬ Has most t0 room (i + 1) (numberOf f)
+    e-not-bad = shape-clean t0 (i + 1) most room (λ a. let z : _≡_ {A = ℕ} 0 1 = cc (same Bad a) in omega arith) closed
 
     e-not-p : (a b : ℕ) → ¬ At t0 (i + 1) (P a b)
     e-not-p a b x = let z : _≡_ {A = ℕ} 0 1 = cc (same _ x) in omega arith
@@ -175,7 +198,10 @@ module _ (most : ℕ) (t0 : Text) (room i : ℕ) (h : Head) (l : List ℕ) (t : 
     headless q = stop Headless ((u, v, e-here), none-before q) low
       where
         low : (g : Fault) → place listOrder (numberOf g) < place listOrder (numberOf Headless) → ¬ Has most t0 room (i + 1) (numberOf g)
-        low Line p x = e-not-bad x
+        low Line p x = e-not-bad Line tt x
+        low Digit p x = e-not-bad Digit tt x
+        low Space p x = e-not-bad Space tt x
+        low NoFeed p x = e-not-bad NoFeed tt x
         low Headless p x = omega arith
         low Second p x = omega arith
         low Size p x = omega arith
@@ -192,7 +218,10 @@ module _ (most : ℕ) (t0 : Text) (room i : ℕ) (h : Head) (l : List ℕ) (t : 
     vertex q o = stop Vertex (u, v, h .n, e-here, one-before q, o) low
       where
         low : (g : Fault) → place listOrder (numberOf g) < place listOrder (numberOf Vertex) → ¬ Has most t0 room (i + 1) (numberOf g)
-        low Line p x = e-not-bad x
+        low Line p x = e-not-bad Line tt x
+        low Digit p x = e-not-bad Digit tt x
+        low Space p x = e-not-bad Space tt x
+        low NoFeed p x = e-not-bad NoFeed tt x
         low Headless p x = headed q x
         low Second p x = e-not-p (x .0 .0) (x .0 .1) (x .0 .2)
         low Size p x = e-not-p (x .0) (x .1) (x .2)
@@ -213,7 +242,10 @@ module _ (most : ℕ) (t0 : Text) (room i : ℕ) (h : Head) (l : List ℕ) (t : 
     loop q a b s = stop Loop (u, subst (λ (y : ℕ). At t0 (i + 1) (E u y)) (sym s) e-here) low
       where
         low : (g : Fault) → place listOrder (numberOf g) < place listOrder (numberOf Loop) → ¬ Has most t0 room (i + 1) (numberOf g)
-        low Line p x = e-not-bad x
+        low Line p x = e-not-bad Line tt x
+        low Digit p x = e-not-bad Digit tt x
+        low Space p x = e-not-bad Space tt x
+        low NoFeed p x = e-not-bad NoFeed tt x
         low Headless p x = headed q x
         low Second p x = e-not-p (x .0 .0) (x .0 .1) (x .0 .2)
         low Size p x = e-not-p (x .0) (x .1) (x .2)
@@ -224,7 +256,10 @@ module _ (most : ℕ) (t0 : Text) (room i : ℕ) (h : Head) (l : List ℕ) (t : 
         low Long p x = omega arith
 
     pub clean-e : h .seen ≡ true → (1 ≤ u) × (u ≤ h .n) → (1 ≤ v) × (v ≤ h .n) → (u ≡ v → ⊥) → (f : Fault) → ¬ Has most t0 room (i + 1) (numberOf f)
-    clean-e q a b d Line x = e-not-bad x
+    clean-e q a b d Line x = e-not-bad Line tt x
+    clean-e q a b d Digit x = e-not-bad Digit tt x
+    clean-e q a b d Space x = e-not-bad Space tt x
+    clean-e q a b d NoFeed x = e-not-bad NoFeed tt x
     clean-e q a b d Headless x = headed q x
     clean-e q a b d Second x = e-not-p (x .0 .0) (x .0 .1) (x .0 .2)
     clean-e q a b d Size x = e-not-p (x .0) (x .1) (x .2)

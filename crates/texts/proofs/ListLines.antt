@@ -4,7 +4,7 @@
 --
 -- Assumes nothing.
 use Prim.Native.Nat.{ℕ, zero, suc, _+_, _≤_}
-use mathlib.Core.Path.{_≡_, refl, subst}
+use mathlib.Core.Path.{_≡_, refl, ap, subst, _∙_}
 use mathlib.Core.Logic.{_⊎_, inl, inr}
 use mathlib.Core.List.{List}
 use native.Mathlib.Omega.{arith}
@@ -13,6 +13,7 @@ use Rattle.lists.specs.Shape.{shapeOf}
 use Rattle.lists.specs.declared.Shape.{Shape}
 use Rattle.texts.specs.Faults.{Unended}
 use Rattle.texts.specs.Listed.{At, Whole}
+use Rattle.texts.specs.ListColumns.{lineAt}
 
 -- ---- a line more at the front
 
@@ -39,10 +40,15 @@ pub record Rest (t0 : Text) (i : ℕ) (t : Text) : Type 0 where
   pub open-forth : (k : ℕ) → 1 ≤ k → Unended t k → Unended t0 (i + k)
   pub open-back : (k : ℕ) → 1 ≤ k → Unended t0 (i + k) → Unended t k
   pub many : lineCount t0 ≡ i + lineCount t
+  pub lines : (k : ℕ) → 1 ≤ k → lineAt t0 (i + k) ≡ lineAt t k
 
 at-unstep : (l : List ℕ) (t : Text) (k : ℕ) (x : Shape) → 1 ≤ k → At (ended l t) (suc k) x → At t k x
 at-unstep l t zero x p h = absurd (omega arith)
 at-unstep l t (suc k) x p h = ((omega arith, omega (arith, h .0 .1)), h .1)
+
+line-unstep : (l : List ℕ) (t : Text) (k : ℕ) → 1 ≤ k → lineAt (ended l t) (suc k) ≡ lineAt t k
+line-unstep l t zero p = absurd (omega arith)
+line-unstep l t (suc k) p = refl
 
 pub rest-whole : (t : Text) → Rest t 0 t
 rest-whole t = record {
@@ -51,6 +57,7 @@ rest-whole t = record {
   open-forth = λ k p h. let e : k ≡ 0 + k = omega arith in subst (Unended t) e h;
   open-back = λ k p h. let e : 0 + k ≡ k = omega arith in subst (Unended t) e h;
   many = omega arith;
+  lines = λ k p. let e : 0 + k ≡ k = omega arith in ap (lineAt t) e;
 }
 
 pub rest-next : (t0 : Text) (i : ℕ) (l : List ℕ) (t : Text) → Rest t0 i (ended l t) → Rest t0 (i + 1) t
@@ -60,6 +67,7 @@ rest-next t0 i l t r = record {
   open-forth = λ k p h. let e : i + suc k ≡ i + 1 + k = omega arith in subst (Unended t0) e (r .open-forth (suc k) (omega arith) h);
   open-back = λ k p h. let e : i + 1 + k ≡ i + suc k = omega arith in r .open-back (suc k) (omega arith) (subst (Unended t0) e h);
   many = omega (arith, r .many);
+  lines = λ k p. let e : i + 1 + k ≡ i + suc k = omega arith in ap (lineAt t0) e ∙ r .lines (suc k) (omega arith) ∙ line-unstep l t k p;
 }
 
 -- ---- ended lines

@@ -3,28 +3,35 @@ use Prim.Native.Nat.{ℕ, suc, _≤_}
 use mathlib.Core.Path.{_≡_, refl, sym, ap, subst, _∙_}
 use mathlib.Core.Logic.{_⊎_, inl, inr, ⊎-elim}
 use mathlib.Core.List.{List, [], _∷_}
+use mathlib.Core.Bool.{Bool, true, false}
 use native.Mathlib.Omega.{arith}
 use borrow.Author.Tests.{eqb-true}
 use lib.Dec.{eqb}
 use lib.ListN.{length, getD, take}
+use Rattle.sets.specs.Lists.{some?}
+use Rattle.refusals.specs.Table.{If}
 use Rattle.sets.proofs.SetLaws.{same-members}
 use Rattle.sets.proofs.TestLaws.{T-ext}
 use Rattle.clashes.specs.Matrix.{matrix, Valid}
 use Rattle.lines.specs.Text.{Text, linesOf}
 use Rattle.lists.specs.declared.Shape.the-variants.{P}
 use Rattle.lists.specs.declared.Fault.{Fault}
-use Rattle.lists.specs.declared.Fault.the-variants.{Line, Headless, Second, Size, Room, Vertex, Loop, Count, Long}
+use Rattle.lists.specs.declared.Fault.the-variants.{Line, Headless, Second, Size, Room, Vertex, Loop, Count, Long, Digit, Space, Unended}
 use Rattle.lists.specs.declared.Reading.{Reading}
 use Rattle.lists.specs.declared.Reading.the-variants.{Read, Refused}
+use Rattle.lists.specs.Expect.{Astray, permitted}
 use Rattle.lists.specs.Promise.{numberOf}
+use Rattle.lists.proofs.Columns.{astray-one}
 use Rattle.lists.specs.Read.{readUpTo}
 use Rattle.texts.specs.Faults.{Faultless}
 use Rattle.texts.specs.Listed.{At, ListOf}
+use Rattle.texts.specs.ListColumns.{lineAt, shapeFaults, ColumnOf}
 use Rattle.texts.specs.ListFaults.{Has, listOrder, Lacks, ListRefused}
 use Rattle.texts.proofs.Refusals.{if-cases, refusal-one, refusal-none}
 use Rattle.texts.proofs.ListLines.{whole-closed}
 use Rattle.texts.proofs.ListAccepted.{list-accepted}
 use Rattle.texts.proofs.ListFaultLaws.{has-fault, has-known}
+use Rattle.texts.proofs.ListShapes.{shape-clean}
 use Rattle.texts.proofs.ListRefused.{list-refused}
 
 -- ---- one refusal
@@ -42,14 +49,23 @@ lacks-one t f g a b = go (cases f a) (cases g b)
     go (inr x) (inl y) = let w = x .1 in absurd (y .1 (w .0) (w .1) (w .2) (w .3))
     go (inr x) (inr y) = x .0 ∙ sym (y .0)
 
+column-one : (t : Text) (f k c d : ℕ) → ColumnOf t f k c → ColumnOf t f k d → c ≡ d
+column-one t f k c d = go (some? (eqb f) shapeFaults)
+  where
+    go : (b : Bool) → If b (Astray permitted (lineAt t k) c) (c ≡ 0) → If b (Astray permitted (lineAt t k) d) (d ≡ 0) → c ≡ d
+    go true x y = astray-one permitted (lineAt t k) c d x y
+    go false x y = x ∙ sym y
+
 module _ (most longest : ℕ) (s : List ℕ) where
-  pub list-refusal-one : (room f g k j : ℕ) → ListRefused most longest s room f k → ListRefused most longest s room g j → (f ≡ g) × (k ≡ j)
-  list-refusal-one room =
-      refusal-one longest s (Has most (linesOf s) room) listOrder (Lacks (linesOf s)) (has-known most (linesOf s) room) (lacks-one (linesOf s))
+  pub list-refusal-one : (room f g k j c d : ℕ) → ListRefused most longest s room f k c → ListRefused most longest s room g j d → (f ≡ g) × (k ≡ j) × (c ≡ d)
+  list-refusal-one room f g k j c d a b =
+      let o = refusal-one longest s (Has most (linesOf s) room) listOrder (Lacks (linesOf s)) (has-known most (linesOf s) room) (lacks-one (linesOf s)) f g k j (a .0) (b .0) in
+      let e = subst (λ (x : ℕ). ColumnOf (linesOf s) f x d) (sym (o .1)) (subst (λ (x : ℕ). ColumnOf (linesOf s) x j d) (sym (o .0)) (b .1)) in
+      (o .0, o .1, column-one (linesOf s) f k c d (a .1) e)
 
   -- where as many rows are lent as a list can have entries, 17 cannot arise: 13 comes first
-  pub never-room : (k : ℕ) → ¬ ListRefused most longest s most (numberOf Room) k
-  never-room k h = ⊎-elim (λ a. a .lowest (numberOf Size) (omega arith) (a .fault)) (λ a. a .fault) (h .1)
+  pub never-room : (k c : ℕ) → ¬ ListRefused most longest s most (numberOf Room) k c
+  never-room k c h = ⊎-elim (λ a. a .lowest (numberOf Size) (omega arith) (a .fault)) (λ a. a .fault) (h .0 .1)
 
   -- ---- a list has no fault
 
@@ -61,7 +77,10 @@ module _ (most longest : ℕ) (s : List ℕ) where
         (e, cc, cc)
 
     fault-none : (room : ℕ) → n ≤ room → (k : ℕ) (f : Fault) → ¬ Has most (linesOf s) room k (numberOf f)
-    fault-none room f k Line h = ⊎-elim (λ a. x .permitted k a) (λ a. whole-closed (linesOf s) k (x .whole) a) h
+    fault-none room f k Line h = shape-clean (linesOf s) k most room (x .permitted k) (whole-closed (linesOf s) k (x .whole)) Line tt h
+    fault-none room f k Digit h = shape-clean (linesOf s) k most room (x .permitted k) (whole-closed (linesOf s) k (x .whole)) Digit tt h
+    fault-none room f k Space h = shape-clean (linesOf s) k most room (x .permitted k) (whole-closed (linesOf s) k (x .whole)) Space tt h
+    fault-none room f k Unended h = shape-clean (linesOf s) k most room (x .permitted k) (whole-closed (linesOf s) k (x .whole)) Unended tt h
     fault-none room f k Headless h = h .1 n (x .head, x .stated, x .edges k _ _ (h .0 .2) .0, x .header)
     fault-none room f k Second h = let b = h .1 .1 in omega (arith, p-says k _ _ (h .0 .2) .0, p-says (b .0) _ _ (b .3) .0, b .2)
     fault-none room f k Size h = omega (arith, p-says k _ _ (h .2) .1, h .3, x .few)
@@ -89,8 +108,8 @@ module _ (most longest : ℕ) (s : List ℕ) where
     }
 
     -- a list for which there is room is not refused
-    pub list-unrefused : (room : ℕ) → n ≤ room → (f k : ℕ) → ¬ ListRefused most longest s room f k
-    list-unrefused room h = refusal-none longest s (Has most (linesOf s) room) listOrder (Lacks (linesOf s)) (list-faultless room h)
+    pub list-unrefused : (room : ℕ) → n ≤ room → (f k c : ℕ) → ¬ ListRefused most longest s room f k c
+    list-unrefused room h f k c a = refusal-none longest s (Has most (linesOf s) room) listOrder (Lacks (linesOf s)) (list-faultless room h) f k (a .0)
 
     -- its clashes are a valid matrix
     pub list-valid : Valid n (matrix rows)
@@ -126,12 +145,14 @@ module _ (most longest : ℕ) (s : List ℕ) where
       go (Read m) e =
           let o = list-one m n _ rows (list-accepted most longest s room m e .0) x in
           (e ∙ ap Read (o .0), ap (λ (i : ℕ). take i (readUpTo most longest s room .rows)) (sym (o .0)) ∙ o .1)
-      go (Refused f k) e = absurd (list-unrefused n rows x room h (numberOf f) k (list-refused most longest s room f k e))
+      go (Refused f k c) e = absurd (list-unrefused n rows x room h (numberOf f) k c (list-refused most longest s room f k c e))
 
   -- each text that is refused in words is refused so
-  pub list-returned : (room f k : ℕ) → ListRefused most longest s room f k → (g : Fault) × (readUpTo most longest s room .answer ≡ Refused g k) × (numberOf g ≡ f)
-  list-returned room f k h = go (readUpTo most longest s room .answer) refl
+  pub list-returned : (room f k c : ℕ) → ListRefused most longest s room f k c → (g : Fault) × (readUpTo most longest s room .answer ≡ Refused g k c) × (numberOf g ≡ f)
+  list-returned room f k c h = go (readUpTo most longest s room .answer) refl
     where
-      go : (a : Reading) → readUpTo most longest s room .answer ≡ a → (g : Fault) × (readUpTo most longest s room .answer ≡ Refused g k) × (numberOf g ≡ f)
-      go (Read m) e = let r = list-accepted most longest s room m e in absurd (list-unrefused m _ (r .0) room (r .1) f k h)
-      go (Refused g j) e = let o = list-refusal-one room (numberOf g) f j k (list-refused most longest s room g j e) h in (g, e ∙ ap (Refused g) (o .1), o .0)
+      go : (a : Reading) → readUpTo most longest s room .answer ≡ a → (g : Fault) × (readUpTo most longest s room .answer ≡ Refused g k c) × (numberOf g ≡ f)
+      go (Read m) e = let r = list-accepted most longest s room m e in absurd (list-unrefused m _ (r .0) room (r .1) f k c h)
+      go (Refused g j d) e =
+          let o = list-refusal-one room (numberOf g) f j k d c (list-refused most longest s room g j d e) h in
+          (g, e ∙ ap (λ (x : ℕ). Refused g x d) (o .1) ∙ ap (Refused g k) (o .2), o .0)

@@ -19,19 +19,23 @@ use Rattle.lists.specs.Read.{inside, join, start, noRowsUpTo, stepUpTo, afterUp
 use Rattle.lists.specs.declared.Shape.{Shape}
 use Rattle.lists.specs.declared.Shape.the-variants.{Comment, P, E, Bad}
 use Rattle.lists.specs.declared.Fault.{Fault}
-use Rattle.lists.specs.declared.Fault.the-variants.{Line, Headless, Second, Size, Room, Vertex, Loop, Count, Long}
+use Rattle.lists.specs.declared.Fault.the-variants.{Line, Headless, Second, Size, Room, Vertex, Loop, Count, Long, Digit, Space, Unended}
 use Rattle.lists.specs.declared.Head.{Head}
 use Rattle.lists.specs.declared.Found.{Found as Finding}
 use Rattle.lists.specs.declared.Reading.{Reading}
 use Rattle.lists.specs.declared.Reading.the-variants.{Read, Refused}
 use Rattle.lists.specs.declared.Step.{Step}
+use Rattle.lists.specs.Expect.{Astray, permitted, spotOf}
 use Rattle.lists.specs.Promise.{numberOf}
+use Rattle.lists.proofs.Columns.{spot-astray, spot-shape}
 use Rattle.lists.proofs.Fold.{inside-is}
 use Rattle.texts.specs.Faults.{Outside, Clean}
+use Rattle.texts.specs.ListColumns.{lineAt, ColumnOf}
 use Rattle.texts.specs.ListFaults.{Has, listOrder, Lacks, ListRefused}
 use Rattle.texts.proofs.Refusals.{refusal-make, outside-is}
 use Rattle.texts.proofs.ListLines.{rest-whole, no-line, unended-none}
 use Rattle.texts.proofs.ListFaultLaws.{Found, clean-of}
+use Rattle.texts.proofs.ListShapes.{shape-clean, open-has, shape-found, column-shape}
 use Rattle.texts.proofs.ListLineFaults.{Told, bad, second, large, roomless, headless, vertex, loop, told-comment, told-p, told-e}
 
 -- ---- all lines
@@ -39,7 +43,7 @@ use Rattle.texts.proofs.ListLineFaults.{Told, bad, second, large, rooml
 module _ (most : ℕ) (t0 : Text) (room : ℕ) where
   abbrev Means : Reading → Type 0
   Means (Read n) = Unit {0}
-  Means (Refused f k) = Found most t0 room f k
+  Means (Refused f k c) = Found most t0 room f k × ColumnOf t0 (numberOf f) k c
 
   end-means : (i : ℕ) (h : Head) (g : List ℕ) → Told most t0 room i h done → Means (readFromUpTo most done room (i + 1) h g .answer)
   end-means i h g told =
@@ -47,8 +51,8 @@ module _ (most : ℕ) (t0 : Text) (room : ℕ) where
       cond-cases F (h .seen) _ _
       (λ q. cond-cases F (eqb (h .count) (h .m)) _ _ (λ _. tt)
       (λ e. let s = told .seen q in
-      ends Count (s .0, h .n, h .m, s .2, λ z. eqb-false (h .count) (h .m) e (omega (arith, told .counted)))))
-      (λ q. ends Headless (λ j n m x. told .unseen q j n m (omega (arith, x .0 .1, told .rest .many)) x))
+      (ends Count (s .0, h .n, h .m, s .2, λ z. eqb-false (h .count) (h .m) e (omega (arith, told .counted))), refl)))
+      (λ q. (ends Headless (λ j n m x. told .unseen q j n m (omega (arith, x .0 .1, told .rest .many)) x), refl))
     where
       ends : (f : Fault) → Lacks t0 (numberOf f) → Found most t0 room f (i + 1)
       ends f x = inr (record { line = omega (arith, told .rest .many); fault = x; clean = λ j b. told .clean j (omega arith) })
@@ -60,38 +64,43 @@ module _ (most : ℕ) (t0 : Text) (room : ℕ) where
   line-means : (l : List ℕ) (t : Text) (i : ℕ) → Onward t (i + 1) → Onward (ended l t) i
   line-means l t i next h g told = go (shapeOf l) refl
     where
-      go : (s : Shape) → shapeOf l ≡ s → Means (afterUpTo most (stepUpTo most h room s) g (i + 1) (readFromUpTo most t room (i + 1 + 1)) .answer)
-      go Bad e = bad most t0 room i h l t told e
+      go : (s : Shape) → shapeOf l ≡ s → Means (afterUpTo most (stepUpTo most h room (spotOf l) s) g (i + 1) (readFromUpTo most t room (i + 1 + 1)) .answer)
+      go Bad e = (
+        bad most t0 room i h l t told e,
+        column-shape t0 (spotOf l .fault) (i + 1) (spotOf l .column) (spot-shape l)
+            (subst (λ (x : List ℕ). Astray permitted x (spotOf l .column)) (sym (told .rest .lines 1 (omega arith))) (spot-astray l)),
+      )
       go Comment e = next h g (told-comment most t0 room i h l t told e)
       go (P n m) e =
           let F : Step → Type 0 = λ s. Means (afterUpTo most s g (i + 1) (readFromUpTo most t room (i + 1 + 1)) .answer) in
-          cond-cases F (h .seen) _ _ (λ q. second most t0 room i h l t told n m e q)
+          cond-cases F (h .seen) _ _ (λ q. (second most t0 room i h l t told n m e q, refl))
           (λ q. cond-cases F (leb n most) _ _
           (λ x. cond-cases F (leb n room) _ _
           (λ y. next _ g (told-p most t0 room i h l t told n m e q (leb-true n most x) (leb-true n room y)))
-          (λ y. roomless most t0 room i h l t told n m e q (leb-true n most x) (leb-false n room y)))
-          (λ x. large most t0 room i h l t told n m e q (leb-false n most x)))
+          (λ y. (roomless most t0 room i h l t told n m e q (leb-true n most x) (leb-false n room y), refl)))
+          (λ x. (large most t0 room i h l t told n m e q (leb-false n most x), refl)))
       go (E u v) e =
           let F : Step → Type 0 = λ s. Means (afterUpTo most s g (i + 1) (readFromUpTo most t room (i + 1 + 1)) .answer) in
-          let out : h .seen ≡ true → Outside (h .n) u ⊎ Outside (h .n) v → Found most t0 room Vertex (i + 1) = λ q o. vertex most t0 room i h l t told u v e q o in
+          let out : h .seen ≡ true → Outside (h .n) u ⊎ Outside (h .n) v → Means (Refused Vertex (i + 1) 0) = λ q o. (vertex most t0 room i h l t told u v e q o, refl) in
           cond-cases F (h .seen) _ _
           (λ q. cond-cases F (inside (h .n) u) _ _
           (λ a. let x = inside-is (h .n) u a in cond-cases F (inside (h .n) v) _ _
           (λ b. let y = inside-is (h .n) v b in cond-cases F (eqb u v) _ _
-          (λ d. loop most t0 room i h l t told u v e q x y (eqb-true u v d))
+          (λ d. (loop most t0 room i h l t told u v e q x y (eqb-true u v d), refl))
           (λ d. next _ (join g (u - 1) (v - 1)) (told-e most t0 room i h l t told u v e q x y (eqb-false u v d))))
           (λ b. out q (inr (outside-is (h .n) v b))))
           (λ a. out q (inl (outside-is (h .n) u a))))
-          (λ q. headless most t0 room i h l t told u v e q)
+          (λ q. (headless most t0 room i h l t told u v e q, refl))
 
   from-means : (t : Text) (i : ℕ) → Onward t i
   from-means done i h g told = end-means i h g told
-  from-means (unended l) i h g told = inl (record {
-    within = (omega arith, omega (arith, told .rest .many));
-    fault = inr (told .rest .open-forth 1 (omega arith) refl);
-    first = λ j b. told .clean j (omega arith);
-    lowest = λ g b x. omega arith;
-  })
+  from-means (unended l) i h g told =
+      let e : lineAt t0 (i + 1) ≡ l = told .rest .lines 1 (omega arith) in
+      let w = told .rest .forth 1 (shapeOf l) ((omega arith, omega arith), refl) in (
+        shape-found most t0 room (i + 1) (spotOf l .fault) (spot-shape l) (open-has t0 (i + 1) most room l e w (told .rest .open-forth 1 (omega arith) refl)) (w .0)
+            (λ j b. told .clean j (omega arith)),
+        column-shape t0 (spotOf l .fault) (i + 1) (spotOf l .column) (spot-shape l) (subst (λ (x : List ℕ). Astray permitted x (spotOf l .column)) (sym e) (spot-astray l)),
+      )
   from-means (ended l t) i h g told = line-means l t i (from-means t (i + 1)) h g told
 
 -- ---- the whole text
@@ -107,7 +116,10 @@ told-start most t room = record {
 }
   where
     none : (f : Fault) → ¬ Has most t room 0 (numberOf f)
-    none Line x = ⊎-elim (λ a. no-line t Bad a) (unended-none t) x
+    none Line x = shape-clean t 0 most room (no-line t Bad) (unended-none t) Line tt x
+    none Digit x = shape-clean t 0 most room (no-line t Bad) (unended-none t) Digit tt x
+    none Space x = shape-clean t 0 most room (no-line t Bad) (unended-none t) Space tt x
+    none Unended x = shape-clean t 0 most room (no-line t Bad) (unended-none t) Unended tt x
     none Headless x = no-line t _ (x .0 .2)
     none Second x = no-line t _ (x .0 .2)
     none Size x = no-line t _ (x .2)
@@ -121,15 +133,16 @@ told-start most t room = record {
 module _ (most longest : ℕ) (s : List ℕ) (room : ℕ) where
   abbrev Meant : Reading → Type 0
   Meant (Read n) = Unit {0}
-  Meant (Refused f k) = ListRefused most longest s room (numberOf f) k
+  Meant (Refused f k c) = ListRefused most longest s room (numberOf f) k c
 
   meant : length s ≤ longest → (a : Reading) → Means most (linesOf s) room a → Meant a
   meant h (Read n) x = tt
-  meant h (Refused f k) x = refusal-make longest s (Has most (linesOf s) room) listOrder (Lacks (linesOf s)) (λ k x. x) (λ x. x) h (numberOf f) k x
+  meant h (Refused f k c) x =
+      (refusal-make longest s (Has most (linesOf s) room) listOrder (Lacks (linesOf s)) (λ k x. x) (λ x. x) h (numberOf f) k (x .0), x .1)
 
-  pub list-refused : (f : Fault) (k : ℕ) → readUpTo most longest s room .answer ≡ Refused f k → ListRefused most longest s room (numberOf f) k
-  list-refused f k a =
+  pub list-refused : (f : Fault) (k c : ℕ) → readUpTo most longest s room .answer ≡ Refused f k c → ListRefused most longest s room (numberOf f) k c
+  list-refused f k c a =
       subst Meant a (cond-cases (λ (x : Finding). Meant (x .answer)) (leb (length s) longest) _ _
       (λ e. meant (leb-true (length s) longest e) (readFromUpTo most (linesOf s) room 1 start (noRowsUpTo most) .answer)
       (from-means most (linesOf s) room (linesOf s) 0 start (noRowsUpTo most) (told-start most (linesOf s) room)))
-      (λ e. (refl, leb-false (length s) longest e)))
+      (λ e. ((refl, leb-false (length s) longest e), refl)))

@@ -4,33 +4,38 @@ use mathlib.Core.Path.{_≡_, refl, sym, ap, subst, _∙_}
 use mathlib.Core.List.{List, _++_}
 use lib.ListN.{length, take, drop}
 use lib.Seq.{take-at, drop-at}
+use Rattle.lines.specs.Text.{Text, linesOf}
 use Rattle.lists.specs.Read.{readUpTo, written}
 use Rattle.lists.specs.Promise.{numberOf, Numbers, readNumbers, ReadPromiseUpTo}
 use Rattle.lists.specs.declared.Fault.{Fault}
-use Rattle.lists.specs.declared.Fault.the-variants.{Line, Headless, Second, Size, Room, Vertex, Loop, Count, Long}
+use Rattle.lists.specs.declared.Fault.the-variants.{Line, Headless, Second, Size, Room, Vertex, Loop, Count, Long, Digit, Space, Unended}
 use Rattle.lists.specs.declared.Reading.{Reading}
 use Rattle.lists.specs.declared.Reading.the-variants.{Read, Refused}
 use Rattle.texts.specs.Listed.{ListOf}
+use Rattle.texts.specs.ListColumns.{ColumnOf}
 use Rattle.texts.specs.ListFaults.{ListRefused}
 use Rattle.texts.proofs.ListAccepted.{list-accepted}
 use Rattle.texts.proofs.ListRefused.{list-refused}
 use Rattle.texts.proofs.ListMeaning.{list-taken, list-returned}
 
 -- a refusal in numbers
-abbrev pub refusedWith : ℕ → ℕ → Numbers
-refusedWith f k = record { number = f; place = k; size = 0 }
+abbrev pub refusedWith : ℕ → ℕ → ℕ → Numbers
+refusedWith f k c = record { number = f; place = k; column = c; size = 0 }
 
--- 18 names no line
-numbers-are : (f : Fault) (k : ℕ) → (numberOf f ≡ numberOf Long → k ≡ 0) → readNumbers (Refused f k) ≡ refusedWith (numberOf f) k
-numbers-are Line k h = refl
-numbers-are Headless k h = refl
-numbers-are Second k h = refl
-numbers-are Size k h = refl
-numbers-are Room k h = refl
-numbers-are Vertex k h = refl
-numbers-are Loop k h = refl
-numbers-are Count k h = refl
-numbers-are Long k h = ap (refusedWith 18) (sym (h refl))
+-- 18 names no line, and only a fault of shape a column
+numbers-are : (t : Text) (f : Fault) (k c : ℕ) → (numberOf f ≡ numberOf Long → k ≡ 0) → ColumnOf t (numberOf f) k c → readNumbers (Refused f k c) ≡ refusedWith (numberOf f) k c
+numbers-are t Line k c h w = refl
+numbers-are t Digit k c h w = refl
+numbers-are t Space k c h w = refl
+numbers-are t Unended k c h w = refl
+numbers-are t Headless k c h w = ap (refusedWith 11 k) (sym w)
+numbers-are t Second k c h w = ap (refusedWith 12 k) (sym w)
+numbers-are t Size k c h w = ap (refusedWith 13 k) (sym w)
+numbers-are t Room k c h w = ap (refusedWith 17 k) (sym w)
+numbers-are t Vertex k c h w = ap (refusedWith 14 k) (sym w)
+numbers-are t Loop k c h w = ap (refusedWith 15 k) (sym w)
+numbers-are t Count k c h w = ap (refusedWith 16 k) (sym w)
+numbers-are t Long k c h w = ap (λ (j : ℕ). refusedWith 18 j 0) (sym (h refl)) ∙ ap (refusedWith 18 k) (sym w)
 
 module _ (most longest : ℕ) (s old new : List ℕ) where
   pub read-accepted : (n : ℕ) → ReadPromiseUpTo most longest s old (Read n) new → ListOf most longest s n (take n new) × (n ≤ length old) × (drop n new ≡ drop n old)
@@ -44,9 +49,9 @@ module _ (most longest : ℕ) (s old new : List ℕ) where
         ap (drop n) w ∙ drop-at (take n g) (drop n old) n (r .0 .long),
       )
 
-  pub read-refused : (f : Fault) (k : ℕ) → ReadPromiseUpTo most longest s old (Refused f k) new → ListRefused most longest s (length old) (numberOf f) k × (new ≡ old)
-  read-refused f k x = (
-    list-refused most longest s (length old) f k (sym (x .answer)),
+  pub read-refused : (f : Fault) (k c : ℕ) → ReadPromiseUpTo most longest s old (Refused f k c) new → ListRefused most longest s (length old) (numberOf f) k c × (new ≡ old)
+  read-refused f k c x = (
+    list-refused most longest s (length old) f k c (sym (x .answer)),
     x .lent ∙ ap (λ (y : Reading). written y (readUpTo most longest s (length old) .rows) old) (sym (x .answer)),
   )
 
@@ -58,9 +63,10 @@ module _ (most longest : ℕ) (s old new : List ℕ) where
           x .lent ∙ ap (λ (y : Reading). written y (readUpTo most longest s (length old) .rows) old) (r .0) ∙ ap (λ (g : List ℕ). g ++ drop n old) (r .1),
         )
 
-    pub read-returned : (f k : ℕ) → ListRefused most longest s (length old) f k → readNumbers a ≡ refusedWith f k
-    read-returned f k h =
-        let r = list-returned most longest s (length old) f k h in
+    pub read-returned : (f k c : ℕ) → ListRefused most longest s (length old) f k c → readNumbers a ≡ refusedWith f k c
+    read-returned f k c h =
+        let r = list-returned most longest s (length old) f k c h in
+        let g = subst (λ (g : ℕ). ListRefused most longest s (length old) g k c) (sym (r .2)) h in
         ap readNumbers (x .answer ∙ r .1)
-        ∙ numbers-are (r .0) k (λ e. subst (λ (g : ℕ). ListRefused most longest s (length old) g k) (sym (r .2) ∙ e) h .0)
-        ∙ ap (λ (g : ℕ). refusedWith g k) (r .2)
+        ∙ numbers-are (linesOf s) (r .0) k c (λ e. subst (λ (g : ℕ). ListRefused most longest s (length old) g k c) (sym (r .2) ∙ e) h .0 .0) (g .1)
+        ∙ ap (λ (g : ℕ). refusedWith g k c) (r .2)

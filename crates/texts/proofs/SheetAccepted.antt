@@ -38,7 +38,7 @@ use Rattle.texts.proofs.SheetRestMember.{member-known, member-rest}
 -- what an outcome says, where it accepts: P of k and the colours, and the entries are n
 abbrev Where : ℕ → (ℕ → List ℕ → Type 0) → List ℕ → ℕ → Checked → Type 0
 Where n P w m (Accepted k) = P k w × (m ≡ n)
-Where n P w m (Unread f k) = Unit {0}
+Where n P w m (Unread f k c) = Unit {0}
 Where n P w m Short = Unit {0}
 Where n P w m (Refused f k) = Unit {0}
 
@@ -47,7 +47,7 @@ Found n P o = Where n P (o .colours) (o .entries) (o .answer)
 
 where-map : (n : ℕ) (P Q : ℕ → List ℕ → Type 0) (w : List ℕ) (m : ℕ) (a : Checked) → ((k : ℕ) → P k w → Q k w) → Where n P w m a → Where n Q w m a
 where-map n P Q w m (Accepted k) f x = (f k (x .0), x .1)
-where-map n P Q w m (Unread e k) f x = tt
+where-map n P Q w m (Unread e k c) f x = tt
 where-map n P Q w m Short f x = tt
 where-map n P Q w m (Refused e k) f x = tt
 

@@ -98,7 +98,7 @@ module _ (n : ℕ) (clash : ℕ → ℕ → Bool) where
               let o = sheet-one sevens m k _ c (r .0) q in
               (e ∙ ap Accepted (o .0), o .1, r .1)
           go (Refused f j) e x = absurd (sheet-unrefused sevens k c q (numberOf f) j x)
-          go (Unread f j) e x = absurd x
+          go (Unread f j c) e x = absurd x
           go Short e x = absurd x
 
     -- each sheet that is refused in words is refused so
@@ -109,5 +109,5 @@ module _ (n : ℕ) (clash : ℕ → ℕ → Bool) where
             → (g : SheetFault) × (sheetUpTo most longest n clash s .answer ≡ Refused g k) × (numberOf g ≡ f)
         go (Accepted m) e x = absurd (refusal-none longest s (Has n clash (linesOf s)) sheetOrder (Lacks n (linesOf s)) x f k h)
         go (Refused g j) e x = let o = sheet-refusal-one (numberOf g) f j k x h in (g, e ∙ ap (Refused g) (o .1), o .0)
-        go (Unread f j) e x = absurd x
+        go (Unread f j c) e x = absurd x
         go Short e x = absurd x

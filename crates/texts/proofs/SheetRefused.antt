@@ -58,7 +58,7 @@ module _ (most n : ℕ) (clash : ℕ → ℕ → Bool) where
   abbrev Means : Text → Checked → Type 0
   Means t (Accepted k) = Clear t
   Means t (Refused f k) = Found n clash t f k
-  Means t (Unread f k) = ⊥
+  Means t (Unread f k c) = ⊥
   Means t Short = ⊥
 
   found-at : (t : Text) (i : ℕ) (f : SheetFault) → Found n clash t f (suc i) → Found n clash t f (i + 1)
@@ -258,7 +258,7 @@ module _ (most n : ℕ) (clash : ℕ → ℕ → Bool) where
   abbrev pub SheetMeans : ℕ → List ℕ → Checked → Type 0
   SheetMeans longest s (Accepted k) = Faultless longest s (Has n clash (linesOf s)) (Lacks n (linesOf s))
   SheetMeans longest s (Refused f k) = SheetRefused longest n clash s (numberOf f) k
-  SheetMeans longest s (Unread f k) = ⊥
+  SheetMeans longest s (Unread f k c) = ⊥
   SheetMeans longest s Short = ⊥
 
   pub sheet-means : (longest : ℕ) (s : List ℕ) → SheetMeans longest s (sheetUpTo most longest n clash s .answer)
@@ -271,7 +271,7 @@ module _ (most n : ℕ) (clash : ℕ → ℕ → Bool) where
           never : (j : ℕ) → ¬ Has n clash (linesOf s) j 18
           never zero y = y
           never (suc j) y = y .2
-      found h (Unread f k) x = x
+      found h (Unread f k c) x = x
       found h Short x = x
 
       go : (b : Bool) → leb (length s) longest ≡ b

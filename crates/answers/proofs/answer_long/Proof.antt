@@ -25,7 +25,7 @@ returns c s h =
     let f = c .before .before in
     let r = f .before .before in
     subst (λ (x : List ℕ). Writes x (r .before .before .before .args .out .now) (f .fit .result) (f .fit .last .1 .0)) (sym (printed-long s h))
-    (f .fit .ensures _ (subst (λ (n : ℕ). IsText (refusedText n 0) (r .refused .result)) (r .before .number .ensures) (r .refused .ensures)))
+    (f .fit .ensures _ (subst (λ (n : ℕ). IsText (refusedText n 0 0) (r .refused .result)) (r .before .number .ensures) (r .refused .ensures)))
 
 pub answer-long-spec : {M : Type 1} → statement M
 answer-long-spec = tie.close (tie.spec number-requires refused-requires fit-requires same-length returns)

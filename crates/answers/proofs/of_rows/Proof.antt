@@ -64,7 +64,7 @@ returns-2 c =
     let f = m .before .before in
     let a = f .before .before .before in
     subst (λ (x : List ℕ). IsText x (c .refused .result)) (sym (rows-refused (a .args .rows .now) (replicate 64 0) (record { sound = a .pre; bytes = a .pre .apart .inside .few }) (f .fewest .result) (f .fewest .last .1 .0) (f .fewest .ensures) (m .match .keys2)))
-    (subst (λ (n : ℕ). IsText (refusedText n 0) (c .refused .result)) (c .before .number .ensures) (c .refused .ensures))
+    (subst (λ (n : ℕ). IsText (refusedText n 0 0) (c .refused .result)) (c .before .number .ensures) (c .refused .ensures))
 
 pub of-rows-spec : {M : Type 1} → statement M
 of-rows-spec = tie.close (tie.spec slice-aggregate-fewest fewest-requires enum-known-a array-share-prefix-colours slice-aggregate-compose compose-requires returns number-requires refused-requires returns-2)

@@ -2,10 +2,14 @@
 use Prim.Native.Nat.{_≤_, _<_, _+_, _-_}
 use mathlib.Core.Path.{_≡_, ap, sym, refl, _∙_}
 use mathlib.Core.Logic.{⊎-elim}
+use mathlib.Core.List.{List}
 use lib.ListN.{length, take, drop}
 use Rattle.lines.specs.Text.{linesOf}
+use Rattle.lines.proofs.Basics.{rest}
 use Rattle.lists.specs.Shape.{shapeOf}
-use Rattle.lists.specs.Read.{mostEntries, longestText, noRows, readFrom, start, stepOf}
+use Rattle.lists.specs.Expect.{spotOf}
+use Rattle.lists.specs.Read.{mostEntries, longestText, noRows, refusedAt, readFrom, start, stepOf}
+use Rattle.lists.specs.declared.Spot.{Spot}
 use Rattle.lists.proofs.Fold.{read-halts, read-ends, read-short, read-long, turn, Turned, ends-below, turned-go, turned-edge}
 use borrow.Author.Needs.{needs}
 use native.Mathlib.Omega.{arith}
@@ -26,21 +30,22 @@ closed c = omega arith
 
 -- the line's step is the definition's
 stepped : (c : tie.After-apply Inv-loop μ-loop) →
-    let b = c .before .before .before .before .before .before in
+    let b = c .before .before .before .before .before in
     let a = b .before .before .before .args in
-    stepOf (b .loop .h) (a .room) (shapeOf (take (c .before .before .before .before .line-end .result - b .loop .at) (drop (b .loop .at) (a .text .now)))) ≡ c .apply .result
-stepped c = sym (c .apply .ensures ∙ ap (stepOf _ _) (c .before .shape-of .ensures))
+    let l = take (c .before .before .before .line-end .result - b .loop .at) (drop (b .loop .at) (a .text .now)) in
+    stepOf (b .loop .h) (a .room) (spotOf l) (shapeOf l) ≡ c .apply .result
+stepped c = sym (c .apply .ensures)
 
 turned : (c : tie.At-match-came Inv-loop μ-loop) →
-    let b = c .before .before .before .before .before .before .before in
+    let b = c .before .before .before .before .before .before in
     let a = b .before .before .before .args in
-    let e = c .before .before .before .before .before .line-end in
-    Turned mostEntries (a .text .now) (a .room) (b .loop .at) (e .result) (b .loop .line) (b .loop .h) (b .loop .rows) (e .ensures .0) (closed (c .before .before .before .before)) (c .match .h) (c .match .rows)
+    let e = c .before .before .before .before .line-end in
+    Turned mostEntries (a .text .now) (a .room) (b .loop .at) (e .result) (b .loop .line) (b .loop .h) (b .loop .rows) (e .ensures .0) (closed (c .before .before .before)) (c .match .h) (c .match .rows)
 turned c =
-    let b = c .before .before .before .before .before .before .before in
+    let b = c .before .before .before .before .before .before in
     let a = b .before .before .before .args in
-    let e = c .before .before .before .before .before .line-end in
-    let l = closed (c .before .before .before .before) in
+    let e = c .before .before .before .before .line-end in
+    let l = closed (c .before .before .before) in
     ⊎-elim
     (λ w. turned-go mostEntries (a .text .now) (a .room) (b .loop .at) (e .result) (b .loop .line) (b .loop .h) (b .loop .rows) (e .ensures .0) l (b .loop .inv .5) (b .loop .inv .4)
     (w .1 .given .0 .0) (stepped (c .before) ∙ w .1 .given .1) _ _ (w .3) (w .4))
@@ -60,43 +65,67 @@ loop-holds c = (omega arith, omega arith, omega arith, omega arith, omega arith,
 line-end-requires : tie.Need-line-end-requires Inv-loop μ-loop
 line-end-requires c κs = search needs
 
-refused-requires-2 : tie.Need-refused-requires-2 Inv-loop μ-loop
-refused-requires-2 c κs = search needs
+sub-spot-of : tie.Need-sub-spot-of Inv-loop μ-loop
+sub-spot-of c = search needs
+
+part-spot-of-start : tie.Need-part-spot-of-start Inv-loop μ-loop
+part-spot-of-start c = search needs
+
+part-spot-of-end : tie.Need-part-spot-of-end Inv-loop μ-loop
+part-spot-of-end c = search needs
+
+spot-of-requires : tie.Need-spot-of-requires Inv-loop μ-loop
+spot-of-requires c κs = search needs
+
+refused-at-requires : tie.Need-refused-at-requires Inv-loop μ-loop
+refused-at-requires c κs = search needs
 
 returns-2 : tie.Need-returns-2 Inv-loop μ-loop
 returns-2 c =
-    let b = c .before .before .before .before .loop in
-    let s = c .before .before .before .before .before .before .before .args .text .now in
-    c .refused2 .ensures ∙ sym (read-halts mostEntries s _ (b .at) _ _ (b .h) (b .rows) (c .before .before .line-end .ensures .0)
-    (c .before .before .before .loop-test .taken) (c .before .if2 .taken)) ∙ b .inv .6 ∙ read-short mostEntries longestText s _ (b .inv .1)
+    let b = c .before .before .before .before .before .before .loop in
+    let s = c .before .before .before .before .before .before .before .before .before .args .text .now in
+    c .refused-at .ensures
+    ∙ ap (λ (p : Spot). refusedAt p (b .line)) (c .before .spot-of .ensures ∙ ap spotOf (rest s (b .at)))
+    ∙ sym (read-halts mostEntries s _ (b .at) _ _ (b .h) (b .rows) (c .before .before .before .before .line-end .ensures .0) (c .before .before .before .before .before .loop-test .taken) (c .before .before .before .if2 .taken))
+    ∙ b .inv .6
+    ∙ read-short mostEntries longestText s _ (b .inv .1)
 
-sub-shape-of : tie.Need-sub-shape-of Inv-loop μ-loop
-sub-shape-of c = search needs
+sub-apply : tie.Need-sub-apply Inv-loop μ-loop
+sub-apply c = search needs
 
-part-shape-of-start : tie.Need-part-shape-of-start Inv-loop μ-loop
-part-shape-of-start c = search needs
+part-apply-start : tie.Need-part-apply-start Inv-loop μ-loop
+part-apply-start c = search needs
 
-part-shape-of-end : tie.Need-part-shape-of-end Inv-loop μ-loop
-part-shape-of-end c = search needs
-
-shape-of-requires : tie.Need-shape-of-requires Inv-loop μ-loop
-shape-of-requires c κs = search needs
+part-apply-end : tie.Need-part-apply-end Inv-loop μ-loop
+part-apply-end c = search needs
 
 apply-requires : tie.Need-apply-requires Inv-loop μ-loop
 apply-requires c κs = search needs
 
-enum-known-why : tie.Need-enum-known-why Inv-loop μ-loop
-enum-known-why c = search needs
+enum-known-spot : tie.Need-enum-known-spot Inv-loop μ-loop
+enum-known-spot c = search needs
 
-refused-requires-3 : tie.Need-refused-requires-3 Inv-loop μ-loop
-refused-requires-3 c κs = search needs
+refused-at-requires-2 : tie.Need-refused-at-requires-2 Inv-loop μ-loop
+refused-at-requires-2 c κs = search needs
 
 returns-3 : tie.Need-returns-3 Inv-loop μ-loop
 returns-3 c =
-    let b = c .before .before .before .before .before .before .before .before .before .before .loop in
-    let s = c .before .before .before .before .before .before .before .before .before .before .before .before .before .args .text .now in
-    c .refused3 .ensures ∙ sym (turn mostEntries s _ (b .at) _ _ (b .h) (b .rows)
-    (c .before .before .before .before .before .before .before .before .line-end .ensures .0) (closed (c .before .before .before .before .before .before .before)) _
+    let b = c .before .before .before .before .before .before .before .before .before .loop in
+    let s = c .before .before .before .before .before .before .before .before .before .before .before .before .args .text .now in
+    c .refused-at2 .ensures ∙ sym (turn mostEntries s _ (b .at) _ _ (b .h) (b .rows) (c .before .before .before .before .before .before .before .line-end .ensures .0) (closed (c .before .before .before .before .before .before)) _
+    (stepped (c .before .before .before .before) ∙ c .before .before .spot .given .1)) ∙ b .inv .6 ∙ read-short mostEntries longestText s _ (b .inv .1)
+
+enum-known-why : tie.Need-enum-known-why Inv-loop μ-loop
+enum-known-why c = search needs
+
+refused-requires-2 : tie.Need-refused-requires-2 Inv-loop μ-loop
+refused-requires-2 c κs = search needs
+
+returns-4 : tie.Need-returns-4 Inv-loop μ-loop
+returns-4 c =
+    let b = c .before .before .before .before .before .before .before .before .before .loop in
+    let s = c .before .before .before .before .before .before .before .before .before .before .before .before .args .text .now in
+    c .refused2 .ensures ∙ sym (turn mostEntries s _ (b .at) _ _ (b .h) (b .rows) (c .before .before .before .before .before .before .before .line-end .ensures .0) (closed (c .before .before .before .before .before .before)) _
     (stepped (c .before .before .before .before) ∙ c .before .before .why .given .1)) ∙ b .inv .6 ∙ read-short mostEntries longestText s _ (b .inv .1)
 
 enum-known-g : tie.Need-enum-known-g Inv-loop μ-loop
@@ -107,42 +136,37 @@ enum-known-g-2 c = search needs
 
 set-bit-requires : tie.Need-set-bit-requires Inv-loop μ-loop
 set-bit-requires c κs =
-    let b = c .before .before .before .before .before .before .before .before .before .before .loop in
-    ends-below mostEntries (c .before .before .before .before .before .before .before .before .before .before .before .before .before .args .text .now) _ (b .at) _
-    (b .line) (b .h) (b .rows) (c .before .before .before .before .before .before .before .before .line-end .ensures .0)
-    (closed (c .before .before .before .before .before .before .before)) (b .inv .5) (b .inv .4) _ _ _
-    (stepped (c .before .before .before .before) ∙ c .before .before .g2 .given .1)
+    let b = c .before .before .before .before .before .before .before .before .before .loop in
+    ends-below mostEntries (c .before .before .before .before .before .before .before .before .before .before .before .before .args .text .now) _ (b .at) _ (b .line) (b .h) (b .rows) (c .before .before .before .before .before .before .before .line-end .ensures .0)
+    (closed (c .before .before .before .before .before .before)) (b .inv .5) (b .inv .4) _ _ _ (stepped (c .before .before .before .before) ∙ c .before .before .g2 .given .1)
 
 set-bit-requires-2 : tie.Need-set-bit-requires-2 Inv-loop μ-loop
 set-bit-requires-2 c κs =
-    let b = c .before .before .before .before .before .before .before .before .before .before .before .before .loop in
-    let w = ends-below mostEntries
-    (c .before .before .before .before .before .before .before .before .before .before .before .before .before .before .before .args .text .now) _ (b .at) _ (b .line)
-    (b .h) (b .rows) (c .before .before .before .before .before .before .before .before .before .before .line-end .ensures .0)
-    (closed (c .before .before .before .before .before .before .before .before .before)) (b .inv .5) (b .inv .4) _ _ _
-    (stepped (c .before .before .before .before .before .before) ∙ c .before .before .before .before .g2 .given .1) in
+    let b = c .before .before .before .before .before .before .before .before .before .before .before .loop in
+    let w = ends-below mostEntries (c .before .before .before .before .before .before .before .before .before .before .before .before .before .before .args .text .now) _ (b .at) _ (b .line) (b .h) (b .rows) (c .before .before .before .before .before .before .before .before .before .line-end .ensures .0)
+    (closed (c .before .before .before .before .before .before .before .before)) (b .inv .5) (b .inv .4) _ _ _ (stepped (c .before .before .before .before .before .before) ∙ c .before .before .before .before .g2 .given .1) in
     (w .1, w .0)
 
 add-at : tie.Need-add-at Inv-loop μ-loop
-add-at c = omega (arith, c .before .before .before .before .before .line-end .ensures .0)
+add-at c = omega (arith, c .before .before .before .before .line-end .ensures .0)
 
 add-line : tie.Need-add-line Inv-loop μ-loop
 add-line c = search needs
 
 loop-less : tie.Need-loop-less Inv-loop μ-loop
-loop-less c = omega (arith, c .before .before .before .before .before .line-end .ensures .0)
+loop-less c = omega (arith, c .before .before .before .before .line-end .ensures .0)
 
 loop-again : tie.Need-loop-again Inv-loop μ-loop
 loop-again c =
     let t = turned c in
-    let e = c .before .before .before .before .before .line-end .ensures in
-    (omega arith, omega arith, omega arith, omega (arith, t .counted), t .few, t .size, t .same ∙ c .before .before .before .before .before .before .before .loop .inv .6)
+    let e = c .before .before .before .before .line-end .ensures in
+    (omega arith, omega arith, omega arith, omega (arith, t .counted), t .few, t .size, t .same ∙ c .before .before .before .before .before .before .loop .inv .6)
 
 ended-requires : tie.Need-ended-requires Inv-loop μ-loop
 ended-requires c κs = search needs
 
-returns-4 : tie.Need-returns-4 Inv-loop μ-loop
-returns-4 c =
+returns-5 : tie.Need-returns-5 Inv-loop μ-loop
+returns-5 c =
     let b = c .before .before .loop in
     let s = c .before .before .before .before .before .args .text .now in
     c .ended .ensures ∙ sym (read-ends mostEntries s _ (b .at) _ (b .h) (b .rows) (c .before .loop-test .left)) ∙ b .inv .6 ∙ read-short mostEntries longestText s _ (b .inv .1)
@@ -157,16 +181,22 @@ gather-spec =
     returns
     loop-holds
     line-end-requires
-    refused-requires-2
+    sub-spot-of
+    part-spot-of-start
+    part-spot-of-end
+    spot-of-requires
+    refused-at-requires
     returns-2
-    sub-shape-of
-    part-shape-of-start
-    part-shape-of-end
-    shape-of-requires
+    sub-apply
+    part-apply-start
+    part-apply-end
     apply-requires
-    enum-known-why
-    refused-requires-3
+    enum-known-spot
+    refused-at-requires-2
     returns-3
+    enum-known-why
+    refused-requires-2
+    returns-4
     enum-known-g
     enum-known-g-2
     set-bit-requires
@@ -176,4 +206,4 @@ gather-spec =
     loop-less
     loop-again
     ended-requires
-    returns-4)
+    returns-5)

@@ -45,7 +45,7 @@ returns-2 : tie.Need-returns-2
 returns-2 c =
     c .without .ensures ∙ sym (check-unread mostEntries longestText (c .before .before .before .before .before .before .before .args .list .now)
     (c .before .before .before .before .before .before .before .args .sheet .now) (c .before .before .before .before .before .before .before .args .room) _
-    (c .before .before .before .before .gather .ensures) _ _ (c .before .before .answer .given .1))
+    (c .before .before .before .before .gather .ensures) _ _ _ (c .before .before .answer .given .1))
 
 returns-3 : tie.Need-returns-3
 returns-3 c =
