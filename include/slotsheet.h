@@ -29,7 +29,7 @@ extern "C" {
 #endif
 
 /* tools/bindings writes from here on, from bindings/interface.txt */
-#define SLOTSHEET_VERSION "1.1.0"
+#define SLOTSHEET_VERSION "2.0.0"
 
 #define SLOTSHEET_ENTRIES 64          /* the most entries of a list */
 #define SLOTSHEET_BYTES 65536         /* the most bytes of a text that is read */
@@ -48,7 +48,7 @@ enum slotsheet_refusal {
     SLOTSHEET_SHORT = 5,        /* colour buffer under n bytes */
     SLOTSHEET_BUDGET = 6,       /* the walk has more nodes than the budget: nodes = budget */
     SLOTSHEET_DEEP = 7,         /* over 64 levels of merging */
-    SLOTSHEET_LINE = 10,        /* line of no permitted shape, or last line without its line feed: line */
+    SLOTSHEET_LINE = 10,        /* a word unknown, or an empty line: line and column */
     SLOTSHEET_HEADLESS = 11,    /* an e line before any p line, or no p line at all: line */
     SLOTSHEET_SECOND = 12,      /* a second p line: line */
     SLOTSHEET_SIZE = 13,        /* p line with over 64 entries: line */
@@ -58,6 +58,9 @@ enum slotsheet_refusal {
     SLOTSHEET_ROOM = 17,        /* fewer lent rows than n: line of p */
     SLOTSHEET_LONG = 18,        /* a text over 65,536 bytes */
     SLOTSHEET_FULL = 19,        /* output buffer too small for the whole text */
+    SLOTSHEET_DIGIT = 21,       /* where a number must start and no digit stands, or a digit after a leading zero or a seventh digit: line and column */
+    SLOTSHEET_SPACE = 22,       /* another byte, or a stop, where a space or the line's end could have followed a word or a number: line and column */
+    SLOTSHEET_UNENDED = 23,     /* last line unended though otherwise whole: line, and column one past its end */
     SLOTSHEET_SHEET_LINE = 30,  /* wrong shape for this place, or last line unended: line */
     SLOTSHEET_MEMBER = 31,      /* member outside 1 to n: line */
     SLOTSHEET_ORDER = 32,       /* not above the member before it in its group, or a group's first not above the previous group's first: line */
@@ -95,9 +98,12 @@ struct slotsheet_walk {
     uint64_t leaves;  /* complete graphs of the plain walk */
 };
 
+/* The column of 10, 21, 22 and 23, in bytes from 1, is that of the first byte at which the line can no longer begin any permitted line; one past
+   its end where it merely stops. */
 struct slotsheet_reading {
     size_t refusal;
     size_t line;      /* counted from 1; lines plus one for a fault at the end */
+    size_t column;
     size_t entries;
 };
 
@@ -110,6 +116,7 @@ struct slotsheet_writing {
 struct slotsheet_checking {
     size_t refusal;
     size_t line;
+    size_t column;    /* as of a reading, where the list is at fault */
     size_t groups;
     size_t text;      /* the text at fault: an enum slotsheet_text */
 };
@@ -123,14 +130,15 @@ struct slotsheet_part {
 /* The version of the library that is linked, as SLOTSHEET_VERSION is that of this header. */
 const char *slotsheet_version(void);
 
-/* The name of a refusal in document 01's table, as "ONE-SIDED"; "ACCEPTED" of 0; NULL of a number that is none. */
+/* The name of a refusal, as "ONE-SIDED"; "ACCEPTED" of 0; NULL of a number that is none. */
 const char *slotsheet_name(size_t refusal);
 
 /* A refusal in words for people, as "line 7: entry 12 stands in an earlier group". `place` is what was returned beside it: its row, line, index
-   or nodes. `shown` is the line at fault, from slotsheet_fault_line, and tells the entry; without it (NULL, 0) the sentence says "the entry on
-   this line". Writes as much as fits of the sentence and a final 0, nothing where out_length is 0; returns the sentence's length without the 0, as
-   snprintf does. No sentence is longer than 255 bytes. `out` and `shown` must not overlap. */
-size_t slotsheet_sentence(size_t refusal, uint64_t place, const uint8_t *shown, size_t shown_length, char *out, size_t out_length);
+   or nodes; `column` is the column that was, 0 where none was. `shown` is the line at fault, from slotsheet_fault_line, and tells the entry; without
+   it (NULL, 0) the sentence says "the entry on this line". Writes as much as fits of the sentence and a final 0, nothing where out_length is 0;
+   returns the sentence's length without the 0, as snprintf does. No sentence is longer than 255 bytes. `out` and `shown` must not overlap. */
+size_t slotsheet_sentence(size_t refusal, uint64_t place, size_t column, const uint8_t *shown, size_t shown_length, char *out,
+                          size_t out_length);
 
 /* Whether rows are a list: 1 to 4, each over all rows before the next. */
 struct slotsheet_verdict slotsheet_validity(const uint64_t *rows, size_t rows_length);
@@ -146,8 +154,8 @@ struct slotsheet_walk slotsheet_fewest(const uint64_t *rows, size_t rows_length,
 /* The same without bounds: also returns the number of complete graphs. For small lists. */
 struct slotsheet_walk slotsheet_plain(const uint64_t *rows, size_t rows_length, uint8_t *colours, size_t colours_length, uint64_t budget);
 
-/* Reads a clash text: 18, then the first faulty line by 10, 11, 12, 13, 17, 14, 15, then 11, 16. Accepted, writes the first n rows; rows
-   from n on stay. */
+/* Reads a clash text: 18, then the first faulty line by 10, 21, 22 or 23, then 11, 12, 13, 17, 14, 15, then at the end 11, 16. Accepted, writes
+   the first n rows; rows from n on stay. */
 struct slotsheet_reading slotsheet_read_list(const uint8_t *text, size_t text_length, uint64_t *rows, size_t rows_length);
 
 /* Writes a list's clash text: 1 to 4, 19. Accepted, writes the first `length` bytes; those after stay. */
@@ -167,8 +175,8 @@ struct slotsheet_checking slotsheet_check_sheet(const uint8_t *list, size_t list
 struct slotsheet_part slotsheet_fault_line(const uint8_t *list, size_t list_length, const uint8_t *sheet, size_t sheet_length, size_t room);
 
 /* Writes the very bytes that the program slotsheet prints for a clash text: the sheet of its fewest groups, by a walk of at most SLOTSHEET_NODES
-   nodes, or "refused R line L" and a line feed: 19 where they do not all fit; SLOTSHEET_SHEET_BYTES are enough. Accepted, writes the first
-   `length` bytes; those after stay. */
+   nodes, or "refused R line L" (of 10, 21, 22 and 23 "refused R line L column C") and a line feed: 19 where they do not all fit;
+   SLOTSHEET_SHEET_BYTES are enough. Accepted, writes the first `length` bytes; those after stay. */
 struct slotsheet_writing slotsheet_answer(const uint8_t *text, size_t text_length, uint8_t *out, size_t out_length);
 
 #ifdef __cplusplus

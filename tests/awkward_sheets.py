@@ -1,11 +1,11 @@
 #!/usr/bin/env python3
-"""Awkward pairs of a clash text and a sheet, and what document 01 says of each.
+"""Awkward pairs of a clash text and a sheet, and what documents 01 and 02 say of each.
 
     awkward_sheets.py input    the file that crates/trials_sheets reads: for each pair a line "L S" (bytes of list and sheet), a line with
                                the number of colour bytes lent, and then the bytes of both
     awkward_sheets.py output   what the program has to write
 
-This reads document 01 for itself: it shares nothing with the library but the paper. Its two outputs are stored as
+This reads the papers for itself: it shares nothing with the library but them. Its two outputs are stored as
 crates/trials_sheets/stdin and stdout, and `awkward_sheets.py check` compares them.
 """
 import os
@@ -79,14 +79,14 @@ def check_sheet(sheet, n, rows):
 
 
 def check(text, sheet, room):
-    """(number, line, which text, k, colours) of a pair."""
-    number, line, n, rows = read(text, 64)
+    """(number, line, column, which text, k, colours) of a pair."""
+    number, line, column, n, rows = read(text, 64)
     if number:
-        return number, line, 1, 0, []
+        return number, line, column, 1, 0, []
     if room < n:
-        return 5, 0, 2, 0, []
+        return 5, 0, 0, 2, 0, []
     number, line, k, colours = check_sheet(sheet, n, rows)
-    return number, line, 2 if number else 0, k, colours
+    return number, line, 0, 2 if number else 0, k, colours
 
 
 def shown(text, line):
@@ -204,10 +204,11 @@ def case_input():
 def output():
     out = []
     for at, (text, sheet, room) in enumerate(pairs(), 1):
-        number, line, which, k, colours = check(text, sheet, room)
+        number, line, column, which, k, colours = check(text, sheet, room)
         lent = [b"%d" % group for group in colours] + [b"-"] * (room - len(colours))
         part = shown(text if which == 1 else sheet, line)
-        out.append(b"%d number %d line %d text %d groups %d colours" % (at, number, line, which, k) + b"".join(b" " + byte for byte in lent))
+        out.append(b"%d number %d line %d column %d text %d groups %d colours" % (at, number, line, column, which, k))
+        out.append(b"".join(b" " + byte for byte in lent))
         out.append(b" shown %d [" % len(part) + part + b"]\n")
         if number == 0:
             out.append(written(colours))
@@ -227,7 +228,7 @@ def main():
         for name, made in (("stdin", case_input()), ("stdout", output())):
             with open(os.path.join(kept, name), "rb") as file:
                 if file.read() != made:
-                    sys.exit(f"{name} is not what document 01 says")
+                    sys.exit(f"{name} is not what the papers say")
     else:
         sys.exit(__doc__)
 

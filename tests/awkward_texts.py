@@ -1,11 +1,11 @@
 #!/usr/bin/env python3
-"""Awkward clash texts, and what document 01 says of each.
+"""Awkward clash texts, and what documents 01 and 02 say of each.
 
     awkward_texts.py input    the file that crates/trials_lists reads: for each text a line "R B" (rows lent, bytes), then its bytes
     awkward_texts.py output   what the program has to write
     awkward_texts.py check    compares the two with what is stored, crates/trials_lists/stdin and stdout
 
-This reads document 01 for itself: it shares nothing with the library but the paper."""
+This reads the papers for itself: it shares nothing with the library but them."""
 import os
 import re
 import sys
@@ -13,12 +13,41 @@ import sys
 NUMBER = rb"(0|[1-9][0-9]{0,6})"
 P = re.compile(rb"p edge " + NUMBER + rb" " + NUMBER)
 E = re.compile(rb"e " + NUMBER + rb" " + NUMBER)
+COMMENT = re.compile(rb"c .*", re.S)
+
+
+def beginnings(*parts):
+    """All beginnings of a line of these parts: each may stand where the one before it does."""
+    found = rb""
+    for part in reversed(parts):
+        found = rb"(?:" + part + found + rb")?"
+    return re.compile(found, re.S)
+
+
+BEGINNINGS = [
+    beginnings(rb"c", rb" ", rb".*"),
+    beginnings(rb"p", rb" ", rb"e", rb"d", rb"g", rb"e", rb" ", NUMBER, rb" ", NUMBER),
+    beginnings(rb"e", rb" ", NUMBER, rb" ", NUMBER),
+]
+
+
+def bad(line):
+    """(refusal, column) of a line that is of no permitted shape, or unended: where it can no longer begin any, and by what was expected there."""
+    if P.fullmatch(line) or E.fullmatch(line) or COMMENT.fullmatch(line):
+        return 23, len(line) + 1
+    good = max(begins.match(line).end() for begins in BEGINNINGS)
+    before, there = line[:good], line[good : good + 1]
+    if before in (b"", b"p ", b"p e", b"p ed", b"p edg"):
+        return 10, good + 1
+    if before.endswith(b" ") or before[-1:].isdigit() and there.isdigit():
+        return 21, good + 1
+    return 22, good + 1
 
 
 def read(text, room):
-    """(refusal, line, n, rows): refusal 0 where the text is a list."""
+    """(refusal, line, column, n, rows): refusal 0 where the text is a list."""
     if len(text) > 65536:
-        return 18, 0, 0, []
+        return 18, 0, 0, 0, []
     lines = text.split(b"\n")
     last = lines.pop()  # what stands after the last line feed: nothing, where every line is ended
     n = m = None
@@ -26,37 +55,38 @@ def read(text, room):
     for at, line in enumerate(lines + ([last] if last else []), 1):
         ended = at <= len(lines)
         p, e = P.fullmatch(line), E.fullmatch(line)
-        if not ended or not (line.startswith(b"c ") or p or e):
-            return 10, at, 0, []
-        if line.startswith(b"c "):
+        if not ended or not (COMMENT.fullmatch(line) or p or e):
+            number, column = bad(line)
+            return number, at, column, 0, []
+        if COMMENT.fullmatch(line):
             continue
         if e and n is None:
-            return 11, at, 0, []
+            return 11, at, 0, 0, []
         if p and n is not None:
-            return 12, at, 0, []
+            return 12, at, 0, 0, []
         if p:
             if int(p[1]) > 64:
-                return 13, at, 0, []
+                return 13, at, 0, 0, []
             if int(p[1]) > room:
-                return 17, at, 0, []
+                return 17, at, 0, 0, []
             n, m = int(p[1]), int(p[2])
             continue
         u, v = int(e[1]), int(e[2])
         if not (1 <= u <= n and 1 <= v <= n):
-            return 14, at, 0, []
+            return 14, at, 0, 0, []
         if u == v:
-            return 15, at, 0, []
+            return 15, at, 0, 0, []
         count += 1
         edges.append((u - 1, v - 1))
     if n is None:
-        return 11, len(lines) + 1, 0, []
+        return 11, len(lines) + 1, 0, 0, []
     if count != m:
-        return 16, len(lines) + 1, 0, []
+        return 16, len(lines) + 1, 0, 0, []
     rows = [0] * n
     for u, v in edges:
         rows[u] |= 1 << v
         rows[v] |= 1 << u
-    return 0, 0, n, rows
+    return 0, 0, 0, n, rows
 
 
 def judge(rows):
@@ -98,18 +128,18 @@ def texts():
         b"", b"\n", b"p edge 0 0\n", b"p edge 1 0\n", b"p edge 2 1\ne 1 2\n", FIVE,
         b"p edge 64 1\ne 1 64\n", b"p edge 64 0\n",
         b"p edge 64 2016\n" + b"".join(b"e %d %d\n" % (v, u) for u in range(1, 65) for v in range(u + 1, 65)),
-        # 10: the last line lacks its line feed
+        # 23: the last line lacks its line feed; or it is not whole, and has its own fault
         b"p edge 0 0", b"p edge 1 0\nc ", b"p edge 2 1\ne 1 2", b"e 1 2", b"p", FIVE + b"e 1 1", FIVE + b"p edge 1 1",
-        # 10: carriage returns, tabs, other spaces
+        # 22, 21, 10: carriage returns, tabs, other spaces
         b"p edge 1 0\r\n", b"p edge 2 1\ne 1 2\r\n", b"p\tedge 1 0\n", b"p edge 1\t0\n", b"p edge 2 1\ne 1\t2\n",
         b"p  edge 1 0\n", b"p edge  1 0\n", b"p edge 1  0\n", b"p edge 1 0 \n", b" p edge 1 0\n",
         b"p edge 2 1\ne  1 2\n", b"p edge 2 1\ne 1  2\n", b"p edge 2 1\ne 1 2 \n", b"p edge 2 1\n e 1 2\n",
-        # 10: numbers
+        # 21, 22: numbers
         b"p edge 01 0\n", b"p edge 1 00\n", b"p edge 2 1\ne 01 2\n", b"p edge 2 1\ne 1 02\n", b"p edge 00 0\n",
         b"p edge 1 10000000\n", b"p edge 10000000 0\n", b"p edge 2 1\ne 1 10000000\n", b"p edge 2 1\ne 00000001 2\n",
         b"p edge -1 0\n", b"p edge +1 0\n", b"p edge 1 0x0\n", b"p edge 1\n", b"p edge 1 \n", b"p edge \n", b"p edge 1 0 0\n",
         b"p edge 2 1\ne 1\n", b"p edge 2 1\ne 1 \n", b"p edge 2 1\ne  \n", b"p edge 2 1\ne 1 2 3\n", b"p edge 1/ 0\n", b"p edge 1 :\n",
-        # 10: words
+        # 10, 22: words
         b"c\n", b"c\np edge 0 0\n", b"c---\n", b"C x\n", b"p edges 1 0\n", b"p col 1 0\n", b"p edge\n", b"P edge 1 0\n", b"E 1 2\n",
         b"x\n", b"n 1 2\n", b"p edge 0 0\n\n", b"\np edge 0 0\n", b"e\n", b"p\n", b"cc \n", b" c \n",
         b"p edge 0 0\n\x00", b"p edge 0 0\n\x00\n", b"\x00", b"p edge 1\x00 0\n", b"\xff\xfe\n", b"\xef\xbb\xbfp edge 0 0\n", b"p edge 1 0\x80\n",
@@ -173,10 +203,10 @@ def each_line(text):
 def output():
     out = []
     for at, (text, room) in enumerate(texts(), 1):
-        number, line, n, rows = read(text, room)
+        number, line, column, n, rows = read(text, room)
         out.append(b"%d read " % at)
         if number:
-            out.append(b"%d line %d kept\n" % (number, line) + each_line(text))
+            out.append(b"%d line %d column %d kept\n" % (number, line, column) + each_line(text))
         else:
             out.append(b"0 entries %d rows" % n + b"".join(b" %d" % row for row in rows) + b" rest kept\n" + matrix_output(rows))
     for rows in MATRICES:
@@ -195,7 +225,7 @@ def main():
         for name, made in (("stdin", case_input()), ("stdout", output())):
             with open(os.path.join(kept, name), "rb") as file:
                 if file.read() != made:
-                    sys.exit(f"{name} is not what document 01 says")
+                    sys.exit(f"{name} is not what the papers say")
     else:
         sys.exit(__doc__)
 

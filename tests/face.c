@@ -2,6 +2,8 @@
 
      face             each refusal but DEEP, which no list can meet, is provoked and has the header's number; slices of length 0 may be NULL; the
                       sentences stay within their buffer; every call is made in a thread of SLOTSHEET_STACK_BYTES; prints "N checks"
+     face examples    of each text of standard input, which is tests/examples.txt, what is stored there is what reading, checking and printing say;
+                      prints "N checks"
      face sentences   prints every refusal's name and sentence, as `tests/faces.py sentences` does */
 #include <pthread.h>
 #include <slotsheet.h>
@@ -16,7 +18,7 @@ static int checks, failed;
         checks++;                                                 \
         if (!(holds)) {                                           \
             printf("face.c, line %d: not so: %s\n", __LINE__, #holds); \
-            failed = 1;                                           \
+            failed++;                                             \
         }                                                         \
     } while (0)
 
@@ -56,7 +58,10 @@ static void numbers(void) {
     CHECK(walked_as(2, 0, 2, 9) == SLOTSHEET_ONE_SIDED);
     CHECK(walked_as(2, 1, 1, 9) == SLOTSHEET_SHORT);
     CHECK(walked_as(2, 1, 2, 0) == SLOTSHEET_BUDGET);
-    CHECK(read_as("p edge 2 1\ne 1  2\n") == SLOTSHEET_LINE);
+    CHECK(read_as("p edge 2 1\n\n") == SLOTSHEET_LINE);
+    CHECK(read_as("p edge 2 1\ne 1  2\n") == SLOTSHEET_DIGIT);
+    CHECK(read_as("p edge 2 1\ne 1 2\r\n") == SLOTSHEET_SPACE);
+    CHECK(read_as("p edge 2 1\ne 1 2") == SLOTSHEET_UNENDED);
     CHECK(read_as("e 1 2\n") == SLOTSHEET_HEADLESS);
     CHECK(read_as("p edge 2 0\np edge 2 0\n") == SLOTSHEET_SECOND);
     CHECK(read_as("p edge 65 0\n") == SLOTSHEET_SIZE);
@@ -95,7 +100,7 @@ static void nulls(void) {
     CHECK(slotsheet_fault_line(NULL, 0, NULL, 0, 0).length == 0);
     CHECK(slotsheet_answer(NULL, 0, NULL, 0).refusal == SLOTSHEET_FULL);
     CHECK(slotsheet_answer(NULL, 0, out, sizeof out).length == length("refused 11 line 1\n"));
-    CHECK(slotsheet_sentence(SLOTSHEET_TWICE, 7, NULL, 0, NULL, 0) == length("line 7: the entry on this line stands in an earlier group"));
+    CHECK(slotsheet_sentence(SLOTSHEET_TWICE, 7, 0, NULL, 0, NULL, 0) == length("line 7: the entry on this line stands in an earlier group"));
 }
 
 /* A sentence in every buffer that is too small for it, and in one that is large enough: nothing past the buffer, and a 0 at its end. */
@@ -104,13 +109,13 @@ static void buffers(void) {
     for (size_t room = 0; room <= length(whole) + 2; room++) {
         char lent[64];
         memset(lent, '#', sizeof lent);
-        CHECK(slotsheet_sentence(SLOTSHEET_TWICE, 7, (const uint8_t *)"12", 2, lent, room) == length(whole));
+        CHECK(slotsheet_sentence(SLOTSHEET_TWICE, 7, 0, (const uint8_t *)"12", 2, lent, room) == length(whole));
         size_t put = room == 0 ? 0 : room - 1 < length(whole) ? room - 1 : length(whole);
         CHECK(memcmp(lent, whole, put) == 0);
         if (room > 0) CHECK(lent[put] == 0);
         CHECK(lent[room == 0 ? 0 : put + 1] == '#');
     }
-    for (size_t number = 0; number < 1000; number++) CHECK(slotsheet_sentence(number, UINT64_MAX, NULL, 0, NULL, 0) < 256);
+    for (size_t number = 0; number < 1000; number++) CHECK(slotsheet_sentence(number, UINT64_MAX, SIZE_MAX, NULL, 0, NULL, 0) < 256);
 }
 
 /* Every call, with the lists that go deepest: no clashes at all, and a ring. */
@@ -149,10 +154,61 @@ static void sentences(void) {
         char sentence[256], with_entry[256];
         const char *name = slotsheet_name(number);
         if (name == NULL) continue;
-        slotsheet_sentence(number, 7, NULL, 0, sentence, sizeof sentence);
-        slotsheet_sentence(number, 7, (const uint8_t *)"12", 2, with_entry, sizeof with_entry);
+        slotsheet_sentence(number, 7, 3, NULL, 0, sentence, sizeof sentence);
+        slotsheet_sentence(number, 7, 3, (const uint8_t *)"12", 2, with_entry, sizeof with_entry);
         printf("%zu %s: %s\n", number, name, sentence);
         if (strcmp(sentence, with_entry) != 0) printf("%zu %s: %s\n", number, name, with_entry);
+    }
+}
+
+/* A text as printf takes it: \n, \r, and \NNN for a byte in octal. */
+static size_t unescaped(const char *text, uint8_t *bytes) {
+    size_t at = 0;
+    for (; *text != 0 && *text != '\n'; text++) {
+        if (*text != '\\') {
+            bytes[at++] = (uint8_t)*text;
+        } else if (*++text == 'n' || *text == 'r') {
+            bytes[at++] = *text == 'n' ? '\n' : '\r';
+        } else {
+            bytes[at++] = (uint8_t)((text[0] - '0') * 64 + (text[1] - '0') * 8 + text[2] - '0');
+            text += 2;
+        }
+    }
+    return at;
+}
+
+static void example(size_t refusal, size_t line, size_t column, const uint8_t *text, size_t text_length) {
+    struct slotsheet_reading read = slotsheet_read_list(text, text_length, rows, SLOTSHEET_ENTRIES);
+    CHECK(read.refusal == refusal && read.line == line && read.column == column);
+    struct slotsheet_checking check = slotsheet_check_sheet(text, text_length, NULL, 0, colours, SLOTSHEET_ENTRIES);
+    CHECK((check.text == SLOTSHEET_LIST) == (refusal != SLOTSHEET_ACCEPTED));
+    if (refusal == SLOTSHEET_ACCEPTED) return;
+    CHECK(check.refusal == refusal && check.line == line && check.column == column && check.groups == 0);
+    char said[256], start[80], printed[80];
+    slotsheet_sentence(refusal, line, column, NULL, 0, said, sizeof said);
+    if (column == 0) {
+        snprintf(start, sizeof start, "line %zu: ", line);
+        snprintf(printed, sizeof printed, "refused %zu line %zu\n", refusal, line);
+    } else {
+        snprintf(start, sizeof start, "line %zu, column %zu: ", line, column);
+        snprintf(printed, sizeof printed, "refused %zu line %zu column %zu\n", refusal, line, column);
+    }
+    CHECK(strncmp(said, start, length(start)) == 0);
+    struct slotsheet_writing answer = slotsheet_answer(text, text_length, out, sizeof out);
+    CHECK(answer.length == length(printed) && memcmp(out, printed, answer.length) == 0);
+}
+
+static void examples(void) {
+    char stored[256];
+    uint8_t text[256];
+    while (fgets(stored, sizeof stored, stdin) != NULL) {
+        size_t refusal, line, column;
+        int from;
+        if (stored[0] == '#' || stored[0] == '\n') continue;
+        int before = failed;
+        CHECK(sscanf(stored, "%zu %zu %zu%n", &refusal, &line, &column, &from) == 3);
+        example(refusal, line, column, text, unescaped(stored + from + 1, text));
+        if (failed > before) printf("of %s", stored);
     }
 }
 
@@ -160,6 +216,11 @@ int main(int count, char **words) {
     if (count > 1 && strcmp(words[1], "sentences") == 0) {
         sentences();
         return 0;
+    }
+    if (count > 1 && strcmp(words[1], "examples") == 0) {
+        examples();
+        printf("%d checks\n", checks);
+        return failed > 0;
     }
     numbers();
     nulls();
@@ -169,5 +230,5 @@ int main(int count, char **words) {
     CHECK(strcmp(slotsheet_name(SLOTSHEET_ONE_SIDED), "ONE-SIDED") == 0);
     CHECK(slotsheet_name(999) == NULL);
     printf("%d checks\n", checks);
-    return failed;
+    return failed > 0;
 }

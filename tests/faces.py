@@ -1,8 +1,8 @@
 """Every number and name of the C header, the C table, the Rust crate, the Python module and README, read from each file as it stands, against each
 other, against the proved table of crates/refusals, and against the second program's. So are the functions, and the fields of the answers.
 
-Prints what differs; ends with 1 where anything does. `faces.py sentences` prints each refusal's sentence instead, with 7 beside it, and again where the
-line at fault, 12, is known and makes a difference."""
+Prints what differs; ends with 1 where anything does. `faces.py sentences` prints each refusal's sentence instead, with 7 and column 3 beside it, and
+again where the line at fault, 12, is known and makes a difference."""
 
 import ast
 import re
@@ -54,7 +54,7 @@ if len(names) != len(refusals) or len(numbers) != len(refusals):
 number = text("crates/refusals/src/lib.rt").split("pub fn number(")[1].split("\n}\n")[0]
 proved = dict(re.findall(r"Refusal::(\w+) => (\d+),", number))
 compare("bindings/interface.txt against crates/refusals", numbers, {name: int(number) for name, number in proved.items()})
-told = {"nothing": "-", "aRow": "row", "theNodes": "nodes", "aLine": "line", "anIndex": "index"}
+told = {"nothing": "-", "aRow": "row", "theNodes": "nodes", "aLine": "line", "aSpot": "spot", "anIndex": "index"}
 table = re.findall(r"^entry (\w+) = row (\d+) (\w+)$", text("crates/refusals/specs/Table.antt"), re.M)
 compare("bindings/interface.txt against crates/refusals/specs/Table.antt", beside, {name: told.get(also, also) for name, _, also in table})
 
@@ -99,7 +99,7 @@ compare("bindings/python, limits", {name: python.get(name) for name in limits}, 
 compare("bindings/python, texts", {name: python.get(f"_{name}") for name in texts}, texts)
 compare("bindings/python", {"version": python["VERSION"]}, {"version": version})
 
-# README and the second program, which is written from document 01 alone
+# README and the second program, which is written from the papers alone
 compare("README.md", {int(number): name for number, name in re.findall(r"^\| (\d+) ([A-Z -]+?) \|", text("README.md"), re.M)}, names)
 compare("second", variants(text("second/src/refusal.rs")), numbers)
 
@@ -127,7 +127,7 @@ compare("bindings/python, answers", held, fields)
 if sys.argv[1:] == ["sentences"]:
     print("0 ACCEPTED: accepted")
     for number, sentence in sentences.items():
-        said = sentence.replace("{place}", "7").replace("{next}", "8")
+        said = sentence.replace("{place}", "7").replace("{column}", "3").replace("{next}", "8")
         for entry in ["the entry on this line", "entry 12"][: 1 + said.count("{entry}")]:
             print(f"{number} {names[number]}: {said.replace('{entry}', entry)}")
     sys.exit(0)

@@ -212,7 +212,7 @@ impl State {
     /// "Groups are numbered from 0 by smallest member; byte i is the number of i's group."
     fn answer(self, walked: Result<(), Spent>, colours: &mut [u8]) -> Result<Walked, Refused> {
         if walked.is_err() {
-            return Err(Refused { why: Refusal::Budget, place: self.nodes });
+            return Err(Refused { place: self.nodes, ..Refusal::Budget.bare() });
         }
         for (number, group) in self.best.iter().filter(|&&group| group != 0).enumerate() {
             for i in Members(*group) {

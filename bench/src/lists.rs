@@ -40,7 +40,7 @@ pub fn random(numbers: &mut Numbers, n: usize, percent: u64) -> Vec<u64> {
 pub fn load(path: &Path) -> io::Result<Vec<u64>> {
     let mut rows = vec![0; 64];
     let text = fs::read(path)?;
-    let refused = |r: second::Refused| io::Error::other(format!("{}: refused {} line {}", path.display(), r.why.number(), r.place));
+    let refused = |r: second::Refused| io::Error::other(format!("{}: {}", path.display(), r.printed()));
     let n = second::list::read(&text, &mut rows).map_err(refused)?;
     rows.truncate(n);
     Ok(rows)

@@ -6,7 +6,7 @@ use second::{Refusal, Refused};
 /// The benches lend valid lists and texts: the budget is the only refusal they meet.
 fn refused(said: slotsheet::Refused) -> Refused {
     assert_eq!(said.why, slotsheet::Refusal::Budget, "{said}");
-    Refused { why: Refusal::Budget, place: said.place }
+    Refused { place: said.place, ..Refusal::Budget.bare() }
 }
 
 pub fn fewest(rows: &[u64], colours: &mut [u8], budget: u64) -> Result<Walked, Refused> {

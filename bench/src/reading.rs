@@ -1,4 +1,5 @@
-//! A clash text read in one pass, as one would write it for speed: no list of lines, numbers taken as their digits come.
+//! A clash text read in one pass, as one would write it for speed: no list of lines, numbers taken as their digits come. Where a line goes bad is
+//! looked for only in a line that does, once more from its start.
 
 use second::{Refusal, Refused};
 
@@ -44,6 +45,84 @@ impl Cursor<'_> {
         self.at += self.text[self.at..].iter().position(|&b| b == b'\n')? + 1;
         Some(())
     }
+}
+
+/// A line that is of no permitted shape, or whose line feed is missing, gone through up to where it goes bad. An error has the kind of what stands at
+/// the cursor, or of the stop there.
+impl Cursor<'_> {
+    fn stands(&self) -> Option<u8> {
+        self.text.get(self.at).copied()
+    }
+
+    fn letters(&mut self, word: &[u8]) -> Result<(), Refusal> {
+        for &letter in word {
+            self.byte(letter, Refusal::Line)?;
+        }
+        Ok(())
+    }
+
+    fn byte(&mut self, byte: u8, otherwise: Refusal) -> Result<(), Refusal> {
+        if self.stands() != Some(byte) {
+            return Err(otherwise);
+        }
+        self.at += 1;
+        Ok(())
+    }
+
+    fn digits(&mut self) -> Result<(), Refusal> {
+        let digit = |byte: Option<u8>| byte.is_some_and(|b| b.is_ascii_digit());
+        if !digit(self.stands()) {
+            return Err(Refusal::Digit);
+        }
+        let most = if self.stands() == Some(b'0') { 1 } else { 7 };
+        let start = self.at;
+        while self.at - start < most && digit(self.stands()) {
+            self.at += 1;
+        }
+        if digit(self.stands()) {
+            return Err(Refusal::Digit);
+        }
+        Ok(())
+    }
+
+    /// A space and a number, twice, and no more.
+    fn two(&mut self) -> Result<(), Refusal> {
+        for _ in 0..2 {
+            self.byte(b' ', Refusal::Space)?;
+            self.digits()?;
+        }
+        if self.at < self.text.len() {
+            return Err(Refusal::Space);
+        }
+        Ok(())
+    }
+
+    fn whole(&mut self) -> Result<(), Refusal> {
+        let first = self.stands();
+        if !matches!(first, Some(b'c' | b'e' | b'p')) {
+            return Err(Refusal::Line);
+        }
+        self.at += 1;
+        if first == Some(b'e') {
+            return self.two();
+        }
+        if first == Some(b'p') {
+            self.byte(b' ', Refusal::Space)?;
+            self.letters(b"edge")?;
+            return self.two();
+        }
+        self.byte(b' ', Refusal::Space)?;
+        self.at = self.text.len();
+        Ok(())
+    }
+}
+
+/// The line that starts here, as a refusal of this number.
+fn bad(text: &[u8], line: usize) -> Refused {
+    let end = text.iter().position(|&b| b == b'\n').unwrap_or(text.len());
+    let mut cursor = Cursor { text: &text[..end], at: 0 };
+    let kind = cursor.whole().err().unwrap_or(Refusal::Unended);
+    kind.spot(line, cursor.at + 1)
 }
 
 /// What is read so far: the p line's numbers once it stood, and the edges.
@@ -106,7 +185,11 @@ pub fn read(text: &[u8], rows: &mut [u64]) -> Result<usize, Refused> {
     let mut reading = Reading { stated: None, edges: 0, rows: [0; 64] };
     let mut line = 1;
     while cursor.at < text.len() {
-        reading.line(&mut cursor, rows.len()).map_err(|why| why.at(line))?;
+        let start = cursor.at;
+        reading.line(&mut cursor, rows.len()).map_err(|why| match why {
+            Refusal::Line => bad(&text[start..], line),
+            _ => why.at(line),
+        })?;
         line += 1;
     }
     let (n, m) = reading.stated.ok_or(Refusal::Headless.at(line))?;

@@ -345,7 +345,7 @@ pub fn fewest(rows: &[u64], colours: &mut [u8], budget: u64) -> Result<Walked, R
     let nowhere = [Pair { u: 0, v: 0 }; 64];
     let mut state = State { budget, nodes: 0, best: n as u32, best_path: nowhere, best_length: 0, path: nowhere };
     if !state.enter(&mut root, below(n), 0) {
-        return Err(Refused { why: Refusal::Budget, place: state.nodes });
+        return Err(Refused { place: state.nodes, ..Refusal::Budget.bare() });
     }
     state.colour(colours, n);
     Ok(Walked { k: u64::from(state.best), nodes: state.nodes, complete: 0 })

@@ -5,10 +5,11 @@
 #include <slotsheet.h>
 #include <stdio.h>
 
-static int refused(const char *text, size_t refusal, uint64_t place, const uint8_t *shown, size_t shown_length) {
+/* `place` and `column` are what was returned beside the refusal; `column` is 0 where none was. */
+static int refused(size_t refusal, uint64_t place, size_t column) {
     char sentence[256];
-    slotsheet_sentence(refusal, place, shown, shown_length, sentence, sizeof sentence);
-    printf("%s%s\n", text, sentence);
+    slotsheet_sentence(refusal, place, column, NULL, 0, sentence, sizeof sentence);
+    printf("%s\n", sentence);
     return 1;
 }
 
@@ -18,29 +19,34 @@ static int answer(const uint8_t *text, size_t length) {
     uint8_t sheet[SLOTSHEET_SHEET_BYTES];
 
     struct slotsheet_reading read = slotsheet_read_list(text, length, rows, SLOTSHEET_ENTRIES);
-    if (read.refusal != SLOTSHEET_ACCEPTED) return refused("", read.refusal, read.line, NULL, 0);
+    if (read.refusal != SLOTSHEET_ACCEPTED) return refused(read.refusal, read.line, read.column);
 
     /* What was read is a list, and there is room: only the budget may refuse. */
     struct slotsheet_walk walk = slotsheet_fewest(rows, read.entries, colours, sizeof colours, SLOTSHEET_NODES);
-    if (walk.refusal != SLOTSHEET_ACCEPTED) return refused("", walk.refusal, walk.nodes, NULL, 0);
+    if (walk.refusal != SLOTSHEET_ACCEPTED) return refused(walk.refusal, walk.nodes, 0);
 
     struct slotsheet_writing written = slotsheet_write_sheet(colours, read.entries, sheet, sizeof sheet);
-    if (written.refusal != SLOTSHEET_ACCEPTED) return refused("", written.refusal, written.place, NULL, 0);
+    if (written.refusal != SLOTSHEET_ACCEPTED) return refused(written.refusal, written.place, 0);
 
     return fwrite(sheet, 1, written.length, stdout) == written.length ? 0 : 3;
 }
 
 static int check(const uint8_t *list, size_t list_length, const uint8_t *sheet, size_t sheet_length) {
     uint8_t colours[SLOTSHEET_ENTRIES];
+    char sentence[256];
 
     struct slotsheet_checking check = slotsheet_check_sheet(list, list_length, sheet, sheet_length, colours, sizeof colours);
     if (check.refusal == SLOTSHEET_ACCEPTED) {
         printf("groups %zu\n", check.groups);
         return 0;
     }
+    /* The line at fault tells the entry. */
     struct slotsheet_part part = slotsheet_fault_line(list, list_length, sheet, sheet_length, sizeof colours);
     int of_list = part.text == SLOTSHEET_LIST;
-    return refused(of_list ? "list: " : "sheet: ", check.refusal, check.line, (of_list ? list : sheet) + part.start, part.length);
+    const uint8_t *shown = (of_list ? list : sheet) + part.start;
+    slotsheet_sentence(check.refusal, check.line, check.column, shown, part.length, sentence, sizeof sentence);
+    printf("%s: %s\n", of_list ? "list" : "sheet", sentence);
+    return 1;
 }
 
 /* One byte more than a text may have, so that a longer one is seen to be. */

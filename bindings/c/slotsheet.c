@@ -127,13 +127,16 @@ static int begins(const char *rest, const char *word) {
     return *word == 0;
 }
 
-size_t slotsheet_sentence(size_t refusal, uint64_t place, const uint8_t *shown, size_t shown_length, char *out, size_t out_length) {
+size_t slotsheet_sentence(size_t refusal, uint64_t place, size_t column, const uint8_t *shown, size_t shown_length, char *out,
+                          size_t out_length) {
     struct writer to = {out, out_length, 0};
     size_t i = found(refusal);
     const char *rest = known(i) ? table[i].sentence : "refused by a number that this version does not know";
     while (*rest != 0) {
         if (begins(rest, "{place}")) {
             put_number(&to, place);
+        } else if (begins(rest, "{column}")) {
+            put_number(&to, column);
         } else if (begins(rest, "{next}")) {
             put_number(&to, place + 1);
         } else if (begins(rest, "{entry}")) {

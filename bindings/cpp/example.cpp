@@ -19,16 +19,16 @@ struct Refused : std::runtime_error {
 };
 
 // An empty vector's data() may be a null pointer, and goes through as it is.
-static std::string in_words(size_t refusal, uint64_t place, const Bytes &shown = {}) {
-    std::string sentence(slotsheet_sentence(refusal, place, shown.data(), shown.size(), nullptr, 0), ' ');
-    slotsheet_sentence(refusal, place, shown.data(), shown.size(), &sentence[0], sentence.size() + 1);
+static std::string in_words(size_t refusal, uint64_t place, size_t column = 0, const Bytes &shown = {}) {
+    std::string sentence(slotsheet_sentence(refusal, place, column, shown.data(), shown.size(), nullptr, 0), ' ');
+    slotsheet_sentence(refusal, place, column, shown.data(), shown.size(), &sentence[0], sentence.size() + 1);
     return sentence;
 }
 
 static std::string sheet_of(const Bytes &text) {
     std::vector<uint64_t> rows(SLOTSHEET_ENTRIES);
     slotsheet_reading read = slotsheet_read_list(text.data(), text.size(), rows.data(), rows.size());
-    if (read.refusal) throw Refused(in_words(read.refusal, read.line));
+    if (read.refusal) throw Refused(in_words(read.refusal, read.line, read.column));
     rows.resize(read.entries);
 
     // What was read is a list, and there is room: only the budget may refuse.
@@ -51,7 +51,7 @@ static size_t groups_of(const Bytes &list, const Bytes &sheet) {
     const Bytes &text = part.text == SLOTSHEET_LIST ? list : sheet;
     auto start = text.begin() + static_cast<std::ptrdiff_t>(part.start);
     Bytes shown(start, start + static_cast<std::ptrdiff_t>(part.length));
-    throw Refused((part.text == SLOTSHEET_LIST ? "list: " : "sheet: ") + in_words(check.refusal, check.line, shown));
+    throw Refused((part.text == SLOTSHEET_LIST ? "list: " : "sheet: ") + in_words(check.refusal, check.line, check.column, shown));
 }
 
 static Bytes take(const char *name) {

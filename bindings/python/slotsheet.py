@@ -24,9 +24,9 @@ Every call that the library refuses raises Refused, which has the refusal's numb
         ...
     slotsheet.Refused: sheet: line 4: entry 2 clashes with an earlier entry of its group
 
-The library is libslotsheet.so.1: the one that the environment variable SLOTSHEET_LIB names, as a file or as its folder; else the one in the prefix
-that this module was installed to; else the one that the system finds. Nothing but Python's standard library is needed. Calls may be made from any
-number of threads.
+The library is libslotsheet.so of this module's major version: the one that the environment variable SLOTSHEET_LIB names, as a file or as its folder;
+else the one in the prefix that this module was installed to; else the one that the system finds. Nothing but Python's standard library is needed.
+Calls may be made from any number of threads.
 """
 
 import ctypes
@@ -42,7 +42,7 @@ __all__ = [
 ]
 
 # tools/bindings writes from here on, from bindings/interface.txt
-VERSION = "1.1.0"
+VERSION = "2.0.0"
 
 ENTRIES = 64  # the most entries of a list
 BYTES = 65_536  # the most bytes of a text that is read
@@ -64,7 +64,7 @@ _TABLE = {
     5: ("SHORT", None, "there is less room for group numbers than the list has entries"),
     6: ("BUDGET", "nodes", "the search for the fewest sittings was given up after {place} steps, as many as it was allowed"),
     7: ("DEEP", None, "the search went more than 64 levels deep"),
-    10: ("LINE", "line", "line {place}: this is neither \"c ..\", \"p edge N M\" nor \"e U V\", or it is the last line and its line end is missing"),
+    10: ("LINE", "spot", "line {place}, column {column}: this line is empty, or its word is none of \"c\", \"p edge\" and \"e\""),
     11: ("HEADLESS", "line", "line {place}: no line \"p edge N M\" has come before this clash, or before the list's end"),
     12: ("SECOND", "line", "line {place}: this is a second line \"p edge N M\""),
     13: ("SIZE", "line", "line {place}: this line states more than 64 entries"),
@@ -74,6 +74,9 @@ _TABLE = {
     17: ("ROOM", "line", "line {place}: this line states more entries than there is room for"),
     18: ("LONG", None, "the text is longer than 65,536 bytes"),
     19: ("FULL", None, "there is too little room to write the whole text"),
+    21: ("DIGIT", "spot", "line {place}, column {column}: here a number must start, and there is none; or a number goes on here after a leading 0 or its seventh digit"),
+    22: ("SPACE", "spot", "line {place}, column {column}: here, after a word or a number, one space or the line's end must come, and there is something else (it may not be visible), or the line stops"),
+    23: ("UNENDED", "spot", "line {place}, column {column}: the last line stops here without its line end"),
     30: ("SHEET LINE", "line", "line {place}: this is not the kind of line that belongs here, or it is the last line and its line end is missing"),
     31: ("MEMBER", "line", "line {place}: {entry} is not in the list"),
     32: ("ORDER", "line", "line {place}: {entry} is out of order: entries rise within a group, and groups by their first entries"),
@@ -93,6 +96,7 @@ class Refused(ValueError):
     number    the refusal's number
     name      its name, as "ONE-SIDED"
     line      the line, counted from 1; the number of lines plus one for a fault at a text's end
+    column    of a line of a list that is of no permitted shape, in bytes from 1: where it can no longer begin any permitted line
     row       the row, counted from 0: that of entry row + 1
     index     the index of a group number, counted from 0: that of entry index + 1
     nodes     the nodes that the walk was allowed
@@ -100,21 +104,24 @@ class Refused(ValueError):
     shown     of a check, the line at fault, as bytes
     sentence  all that in words for people
 
-    Of line, row, index and nodes those are None that are not returned beside the refusal; text and shown are None but for a check.
+    Of line, column, row, index and nodes those are None that are not returned beside the refusal; text and shown are None but for a check.
     """
 
-    def __init__(self, number, place, text=None, shown=None):
+    def __init__(self, number, place, column=0, text=None, shown=None):
         self.number = number
         self.name, beside, template = _TABLE[number]
-        self.line, self.row, self.index, self.nodes = (place if beside == kind else None for kind in ("line", "row", "index", "nodes"))
+        self.row, self.index, self.nodes = (place if beside == kind else None for kind in ("row", "index", "nodes"))
+        self.line = place if beside in ("line", "spot") else None
+        self.column = column if beside == "spot" else None
         self.text = text
         self.shown = shown
         digits = shown is not None and 1 <= len(shown) <= 7 and all(byte in b"0123456789" for byte in shown)
         entry = f"entry {shown.decode('ascii')}" if digits else "the entry on this line"
-        said = template.replace("{place}", str(place)).replace("{next}", str(place + 1)).replace("{entry}", entry)
+        numbers = template.replace("{place}", str(place)).replace("{column}", str(column)).replace("{next}", str(place + 1))
+        said = numbers.replace("{entry}", entry)
         self.sentence = f"{text}: {said}" if text else said
         super().__init__(self.sentence)
-        self._made_of = (number, place, text, shown)
+        self._made_of = (number, place, column, text, shown)
 
     def __reduce__(self):
         return Refused, self._made_of
@@ -139,7 +146,7 @@ class _Walk(ctypes.Structure):
 
 
 class _Reading(ctypes.Structure):
-    _fields_ = [("refusal", c_size_t), ("line", c_size_t), ("entries", c_size_t)]
+    _fields_ = [("refusal", c_size_t), ("line", c_size_t), ("column", c_size_t), ("entries", c_size_t)]
 
 
 class _Writing(ctypes.Structure):
@@ -147,7 +154,7 @@ class _Writing(ctypes.Structure):
 
 
 class _Checking(ctypes.Structure):
-    _fields_ = [("refusal", c_size_t), ("line", c_size_t), ("groups", c_size_t), ("text", c_size_t)]
+    _fields_ = [("refusal", c_size_t), ("line", c_size_t), ("column", c_size_t), ("groups", c_size_t), ("text", c_size_t)]
 
 
 class _Part(ctypes.Structure):
@@ -173,13 +180,13 @@ _CALLS = {
     "answer": (_Writing, _TEXT + _LENT),
     "version": (c_char_p, []),
     "name": (c_char_p, [c_size_t]),
-    "sentence": (c_size_t, [c_size_t, c_uint64] + _TEXT + [c_char_p, c_size_t]),
+    "sentence": (c_size_t, [c_size_t, c_uint64, c_size_t] + _TEXT + [c_char_p, c_size_t]),
 }
 
 
 def _load():
     """The shared object, with the types of its functions."""
-    file = "libslotsheet.so.1"
+    file = f"libslotsheet.so.{VERSION.split('.')[0]}"
     named = os.environ.get("SLOTSHEET_LIB")
     above = Path(__file__).resolve().parents  # installed: PREFIX/share/slotsheet/python
     if named:
@@ -217,9 +224,9 @@ def _text(text):
     return text.encode("utf-8", "surrogateescape") if isinstance(text, str) else bytes(memoryview(text))
 
 
-def _answered(refusal, place, answer):
+def _answered(refusal, place, answer, column=0):
     if refusal:
-        raise Refused(refusal, place)
+        raise Refused(refusal, place, column)
     return answer
 
 
@@ -281,11 +288,11 @@ def plain(rows, budget=NODES):
 
 
 def read_list(text):
-    """The rows of a clash text, given as str or bytes. Refused as 18, and as 10 to 16 with the line."""
+    """The rows of a clash text, given as str or bytes. Refused as 18, as 11 to 16 with the line, and as 10, 21, 22 and 23 with line and column."""
     text = _text(text)
     rows = (c_uint64 * ENTRIES)()
     said = _library.slotsheet_read_list(text, len(text), rows, ENTRIES)
-    return _answered(said.refusal, said.line, rows[: said.entries])
+    return _answered(said.refusal, said.line, rows[: said.entries], said.column)
 
 
 def write_list(rows):
@@ -318,6 +325,8 @@ def answer(text):
     'groups 2\\nsize 1\\n1\\nsize 1\\n2\\n'
     >>> answer("p edge 2 1\\ne 1 3\\n")
     'refused 14 line 2\\n'
+    >>> answer("p edge 2 1\\ne 1\\n")
+    'refused 22 line 2 column 4\\n'
     """
     text = _text(text)
     out = (c_uint8 * SHEET_BYTES)()
@@ -338,7 +347,7 @@ def check_sheet(list_text, sheet):
     said = _library.slotsheet_check_sheet(list_text, len(list_text), sheet, len(sheet), colours, ENTRIES)
     if said.refusal:
         shown = fault_line(list_text, sheet)
-        raise Refused(said.refusal, said.line, "list" if said.text == _LIST else "sheet", shown)
+        raise Refused(said.refusal, said.line, said.column, "list" if said.text == _LIST else "sheet", shown)
     return Checked(said.groups, colours[: len(read_list(list_text))])
 
 

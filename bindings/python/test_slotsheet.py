@@ -21,7 +21,7 @@ REFUSED = {
     3: (lambda: slotsheet.mycielskian_bound([0, 0, 4]), {"row": 2}),
     4: (lambda: slotsheet.write_list([0, 1]), {"row": 1}),
     6: (lambda: slotsheet.fewest([0, 0, 0], 4), {"nodes": 4}),
-    10: (lambda: slotsheet.read_list("p edge 1 0"), {"line": 1}),
+    10: (lambda: slotsheet.read_list("p ed\n"), {"line": 1, "column": 5}),
     11: (lambda: slotsheet.read_list(b""), {"line": 1}),
     12: (lambda: slotsheet.read_list("p edge 1 0\np edge 1 0\n"), {"line": 2}),
     13: (lambda: slotsheet.read_list("p edge 65 0\n"), {"line": 1}),
@@ -29,6 +29,9 @@ REFUSED = {
     15: (lambda: slotsheet.read_list("p edge 2 1\ne 1 1\n"), {"line": 2}),
     16: (lambda: slotsheet.read_list("p edge 2 2\ne 1 2\n"), {"line": 3}),
     18: (lambda: slotsheet.read_list(b"\n" * 65537), {}),
+    21: (lambda: slotsheet.read_list("p edge 2 1\ne 1  2\n"), {"line": 2, "column": 5}),
+    22: (lambda: slotsheet.check_sheet("p edge 1 0\r\n", ""), {"line": 1, "column": 11, "text": "list", "shown": b"p edge 1 0\r"}),
+    23: (lambda: slotsheet.read_list("p edge 1 0"), {"line": 1, "column": 11}),
     30: (lambda: slotsheet.check_sheet(LIST, "group 1\n"), {"line": 1, "text": "sheet", "shown": b"group 1"}),
     31: (lambda: slotsheet.check_sheet(LIST, "groups 1\nsize 1\n4\n"), {"line": 3, "text": "sheet", "shown": b"4"}),
     32: (lambda: slotsheet.check_sheet(LIST, "groups 1\nsize 2\n3\n1\n"), {"line": 4, "text": "sheet", "shown": b"1"}),
@@ -114,7 +117,7 @@ class Refusals(unittest.TestCase):
                 call()
             refused = caught.exception
             self.assertEqual((refused.number, str(refused)), (number, refused.sentence))
-            for name in ("line", "row", "index", "nodes", "text", "shown"):
+            for name in ("line", "column", "row", "index", "nodes", "text", "shown"):
                 self.assertEqual(getattr(refused, name), beside.get(name), f"{number} {name}")
 
     def test_the_list_of_a_check(self):
@@ -123,12 +126,30 @@ class Refusals(unittest.TestCase):
         self.assertEqual(caught.exception.shown, b"e 1 3")
         self.assertEqual(caught.exception.sentence, "list: line 2: this clash names an entry that the list does not have")
 
+    def test_the_stored_examples(self):
+        stored = (Path(__file__).resolve().parents[2] / "tests" / "examples.txt").read_text()
+        for example in (line for line in stored.splitlines() if line and not line.startswith("#")):
+            number, line, column, text = example.split(" ", 3)
+            text = text.encode().decode("unicode_escape").encode("latin-1")
+            with self.subTest(example):
+                if number == "0":
+                    slotsheet.read_list(text)
+                    continue
+                told = f"refused {number} line {line}" + (f" column {column}" if column != "0" else "")
+                self.assertEqual(slotsheet.answer(text), told + "\n")
+                for call in (lambda: slotsheet.read_list(text), lambda: slotsheet.check_sheet(text, "")):
+                    with self.assertRaises(Refused) as caught:
+                        call()
+                    refused = caught.exception
+                    self.assertEqual((refused.number, refused.line, refused.column or 0), (int(number), int(line), int(column)))
+                    self.assertIn(f"line {line}, column {column}: " if column != "0" else f"line {line}: ", refused.sentence)
+
     def test_sentences_are_those_of_c(self):
         for number in slotsheet._TABLE:
             for shown in (b"", b"12", b"12345678", b"size 1", b"-1"):
                 out = ctypes.create_string_buffer(256)
-                length = slotsheet._library.slotsheet_sentence(number, 7, shown, len(shown), out, 256)
-                self.assertEqual(out.value.decode(), Refused(number, 7, None, shown).sentence)
+                length = slotsheet._library.slotsheet_sentence(number, 7, 3, shown, len(shown), out, 256)
+                self.assertEqual(out.value.decode(), Refused(number, 7, 3, None, shown).sentence)
                 self.assertEqual(length, len(out.value))
             self.assertEqual(slotsheet._library.slotsheet_name(number).decode(), Refused(number, 7).name)
 
@@ -141,10 +162,12 @@ class Refusals(unittest.TestCase):
             self.assertEqual(getattr(slotsheet, name), int(value))
 
     def test_it_can_be_copied(self):
-        refused = Refused(33, 7, "sheet", b"12")
+        refused = Refused(33, 7, 0, "sheet", b"12")
         again = pickle.loads(pickle.dumps(refused))
         self.assertEqual(again.sentence, "sheet: line 7: entry 12 stands in an earlier group")
         self.assertEqual((again.number, again.line, again.shown), (33, 7, b"12"))
+        again = pickle.loads(pickle.dumps(Refused(22, 7, 3)))
+        self.assertEqual((again.number, again.line, again.column, again.text), (22, 7, 3, None))
 
 
 def load_tests(loader, tests, ignore):

@@ -1,9 +1,9 @@
-//! A second opinion, written from document 01 and docs/DECISIONS.md alone. It shares no code and no method with the proved crates, so where
+//! A second opinion, written from documents 01 and 02 and docs/DECISIONS.md alone. It shares no code and no method with the proved crates, so where
 //! the two agree on thousands of inputs, a misreading of the paper would have to have happened twice.
 //!
 //! - `colouring`: the fewest groups, by saturation branch and bound (no merging, no Mycielskian bound, no node count);
 //! - `matrix`: what makes lent rows a list (1 to 4), and P by listing divisions;
-//! - `list`: reading and writing a clash text;
+//! - `list`: reading and writing a clash text; `shape`: what its lines may be, and the column at which one goes bad;
 //! - `sheet`: writing a sheet, checking one against a list, and the preview's part.
 
 pub mod colouring;
@@ -11,6 +11,7 @@ pub mod lines;
 pub mod list;
 pub mod matrix;
 pub mod refusal;
+pub mod shape;
 pub mod sheet;
 
 pub use refusal::{Refusal, Refused};

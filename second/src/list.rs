@@ -1,29 +1,8 @@
-//! Clash texts: DIMACS colouring format, as document 01 narrows it.
+//! Clash texts: DIMACS colouring format, as documents 01 and 02 narrow it.
 
-use crate::lines::{lines, number, words, Line};
+use crate::lines::{lines, Line};
+use crate::shape::{bad, shape, Shape};
 use crate::{matrix, Refusal, Refused, BYTES, ENTRIES};
-
-/// What a line of permitted shape says.
-enum Shape {
-    Comment,
-    Problem { entries: usize, edges: usize },
-    Edge { ends: [usize; 2] },
-}
-
-/// The permitted shapes: "c " and anything, "p edge N M", "e U V", each ended.
-fn shape(line: &Line) -> Option<Shape> {
-    if !line.ended {
-        return None;
-    }
-    if line.bytes.starts_with(b"c ") {
-        return Some(Shape::Comment);
-    }
-    match words(line.bytes)[..] {
-        [b"p", b"edge", n, m] => Some(Shape::Problem { entries: number(n)?, edges: number(m)? }),
-        [b"e", u, v] => Some(Shape::Edge { ends: [number(u)?, number(v)?] }),
-        _ => None,
-    }
-}
 
 /// What has been read so far.
 struct State {
@@ -34,9 +13,18 @@ struct State {
 }
 
 impl State {
-    /// One line, by 10, 11, 12, 13, 17, 14, 15.
-    fn take(&mut self, line: &Line, room: usize) -> Result<(), Refusal> {
-        match (shape(line).ok_or(Refusal::Line)?, self.stated) {
+    /// One line, by 10 and its kin, 11, 12, 13, 17, 14, 15.
+    fn take(&mut self, line: &Line, room: usize) -> Result<(), Refused> {
+        let Some(shape) = shape(line.bytes).filter(|_| line.ended) else {
+            let (kind, column) = bad(line.bytes);
+            return Err(kind.spot(line.number, column));
+        };
+        self.say(shape, room).map_err(|why| why.at(line.number))
+    }
+
+    /// What an ended line of permitted shape says: 11, 12, 13, 17, 14, 15.
+    fn say(&mut self, shape: Shape, room: usize) -> Result<(), Refusal> {
+        match (shape, self.stated) {
             (Shape::Comment, _) => {}
             (Shape::Edge { .. }, None) => return Err(Refusal::Headless),
             (Shape::Problem { .. }, Some(_)) => return Err(Refusal::Second),
@@ -63,7 +51,7 @@ pub fn read(text: &[u8], rows: &mut [u64]) -> Result<usize, Refused> {
     let all = lines(text);
     let mut state = State { stated: None, edges: 0, rows: [0; ENTRIES] };
     for line in &all {
-        state.take(line, rows.len()).map_err(|why| why.at(line.number))?;
+        state.take(line, rows.len())?;
     }
     let past = all.len() + 1;
     let (n, stated) = state.stated.ok_or(Refusal::Headless.at(past))?;
@@ -104,7 +92,7 @@ mod tests {
     const FIVE_CYCLE: &str = "p edge 5 5\ne 1 2\ne 2 3\ne 3 4\ne 4 5\ne 1 5\n";
 
     /// Reads with 64 lent rows of a pattern that must stay where reading writes nothing.
-    fn read_64(text: &[u8]) -> Result<Vec<u64>, (u64, u64)> {
+    fn read_64(text: &[u8]) -> Result<Vec<u64>, [u64; 3]> {
         let mut rows = [0xA5A5_u64; 64];
         match read(text, &mut rows) {
             Ok(n) => {
@@ -113,13 +101,17 @@ mod tests {
             }
             Err(refused) => {
                 assert_eq!(rows, [0xA5A5; 64], "nothing lent is written");
-                Err((refused.why.number(), refused.place))
+                Err([refused.why.number(), refused.place, refused.column])
             }
         }
     }
 
+    fn refused_at(text: &str, number: u64, line: u64, column: u64) {
+        assert_eq!(read_64(text.as_bytes()), Err([number, line, column]), "{text:?}");
+    }
+
     fn refused(text: &str, number: u64, line: u64) {
-        assert_eq!(read_64(text.as_bytes()), Err((number, line)), "{text:?}");
+        refused_at(text, number, line, 0);
     }
 
     #[test]
@@ -143,67 +135,33 @@ mod tests {
 
     #[test]
     fn lines_of_no_shape() {
-        for line in [
-            "",
-            "c",
-            "c---",
-            "C x",
-            " ",
-            "p",
-            "p edge",
-            "p edge 2",
-            "p edge 2 1 ",
-            "p edge 2 1 3",
-            "p  edge 2 1",
-            "p edge  2 1",
-            "p col 2 1",
-            "P edge 2 1",
-            "p edge 02 1",
-            "p edge 2 01",
-            "p edge 10000000 1",
-            "p edge -2 1",
-            "p edge 2,1",
-            "p\tedge 2 1",
-            " p edge 2 1",
-            "e",
-            "e 1",
-            "e 1 ",
-            "e 1 2 ",
-            " e 1 2",
-            "e 1  2",
-            "e  1 2",
-            "e 01 2",
-            "e 1 00",
-            "e 1 12345678",
-            "e 1 2 3",
-            "e 1 x",
-            "e 1\t2",
-            "e 1 2\r",
-            "E 1 2",
-            "n 1 2",
-            "e\u{a0}1 2",
-            "edge 1 2",
-            "e1 2",
-            "cc",
-            "\u{0}",
-        ] {
-            refused(&format!("{line}\n"), 10, 1);
-            refused(&format!("p edge 2 1\nc x\n{line}\ne 1 2\n"), 10, 3);
-            refused(&format!("p edge 2 1\ne 1 2\n{line}\n"), 10, 3);
+        for (line, number, column) in
+            [("", 10, 1), ("p col 2 1", 10, 3), ("e 1 x", 21, 5), ("p edge 2 01", 21, 11), ("e 1 2 ", 22, 6), ("e1 2", 22, 2)]
+        {
+            refused_at(&format!("{line}\n"), number, 1, column);
+            refused_at(&format!("p edge 2 1\nc x\n{line}\ne 1 2\n"), number, 3, column);
+            refused_at(&format!("p edge 2 1\ne 1 2\n{line}\n"), number, 3, column);
         }
     }
 
     #[test]
-    fn an_unended_line_is_10_whatever_else() {
-        refused("c", 10, 1);
-        refused("c x", 10, 1);
-        refused("p edge 2 1", 10, 1);
-        refused("p edge 65 1", 10, 1);
-        refused("e 1 2", 10, 1);
-        refused("p edge 2 1\ne 1 2", 10, 2);
-        refused("p edge 2 1\np edge 2 1", 10, 2);
-        refused("p edge 2 1\ne 3 3", 10, 2);
-        refused("\n", 10, 1);
+    fn an_unended_line_that_is_whole_is_23_whatever_else() {
+        refused_at("c x", 23, 1, 4);
+        refused_at("p edge 2 1", 23, 1, 11);
+        refused_at("p edge 65 1", 23, 1, 12);
+        refused_at("e 1 2", 23, 1, 6);
+        refused_at("p edge 2 1\ne 1 2", 23, 2, 6);
+        refused_at("p edge 2 1\np edge 2 1", 23, 2, 11);
+        refused_at("p edge 2 1\ne 3 3", 23, 2, 6);
+    }
+
+    #[test]
+    fn an_unended_line_that_is_not_has_its_own() {
+        refused_at("c", 22, 1, 2);
+        refused_at("p ed", 10, 1, 5);
+        refused_at("p edge 2 1\ne 1 ", 21, 2, 5);
+        refused_at("p edge 2 1\ne 1", 22, 2, 4);
+        refused_at("\n", 10, 1, 1);
     }
 
     #[test]
@@ -258,9 +216,9 @@ mod tests {
         text.push(b'\n');
         assert_eq!(read_64(&text), Ok(vec![]));
         text.push(b'\n');
-        assert_eq!(read_64(&text), Err((18, 0)));
-        assert_eq!(read_64(&[0xff; BYTES + 1]), Err((18, 0)));
-        assert_eq!(read_64(&[b'\n'; BYTES]), Err((10, 1)));
+        assert_eq!(read_64(&text), Err([18, 0, 0]));
+        assert_eq!(read_64(&[0xff; BYTES + 1]), Err([18, 0, 0]));
+        assert_eq!(read_64(&[b'\n'; BYTES]), Err([10, 1, 1]));
     }
 
     #[test]

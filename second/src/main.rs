@@ -1,5 +1,5 @@
 //! `second`: reads a clash text from standard input and prints "k K" and "colours C C ..", the fewest groups and each entry's group; or
-//! "refused R line L", and then its exit status is 1.
+//! "refused R line L", with " column C" where there is one, and then its exit status is 1.
 
 use std::io::{self, Read, Write};
 use std::process::ExitCode;
@@ -23,7 +23,7 @@ fn main() -> io::Result<ExitCode> {
             Ok(ExitCode::SUCCESS)
         }
         Err(refused) => {
-            writeln!(out, "refused {} line {}", refused.why.number(), refused.place)?;
+            writeln!(out, "{}", refused.printed())?;
             Ok(ExitCode::FAILURE)
         }
     }

@@ -1,6 +1,6 @@
-//! Document 01's table of refusals.
+//! Document 01's table of refusals, with those of document 02 that have come.
 
-/// Each refusal by its name in document 01 (`Itself` for SELF); its value is its number there.
+/// Each refusal by its name (`Itself` for SELF); its value is its number.
 #[derive(Clone, Copy, Debug, PartialEq, Eq, PartialOrd, Ord, Hash)]
 pub enum Refusal {
     Many = 1,
@@ -20,6 +20,9 @@ pub enum Refusal {
     Room = 17,
     Long = 18,
     Full = 19,
+    Digit = 21,
+    Space = 22,
+    Unended = 23,
     SheetLine = 30,
     Member = 31,
     Order = 32,
@@ -32,14 +35,19 @@ pub enum Refusal {
 }
 
 impl Refusal {
-    /// The number that document 01 gives.
+    /// Its number in the papers.
     pub fn number(self) -> u64 {
         self as u64
     }
 
     /// A refusal that names a row, a line, an index or a count of nodes.
     pub fn at(self, place: usize) -> Refused {
-        Refused { why: self, place: place as u64 }
+        self.spot(place, 0)
+    }
+
+    /// A refusal that names a line and a column.
+    pub fn spot(self, line: usize, column: usize) -> Refused {
+        Refused { why: self, place: line as u64, column: column as u64 }
     }
 
     /// A refusal that names no place.
@@ -53,4 +61,17 @@ impl Refusal {
 pub struct Refused {
     pub why: Refusal,
     pub place: u64,
+    /// Of 10, 21, 22 and 23, counted from 1; else 0.
+    pub column: u64,
+}
+
+impl Refused {
+    /// A clash text's refusal as the program `slotsheet` prints it, but for the line feed.
+    pub fn printed(&self) -> String {
+        let line = format!("refused {} line {}", self.why.number(), self.place);
+        match self.column {
+            0 => line,
+            column => format!("{line} column {column}"),
+        }
+    }
 }

@@ -49,10 +49,10 @@ pub fn plain(rows: &[u64], colours: &mut [u8], budget: u64) -> [u64; 5] {
     walk(unsafe { raw::slotsheet_plain(rows.as_ptr(), rows.len(), colours.as_mut_ptr(), colours.len(), budget) })
 }
 
-pub fn read_list(text: &[u8], rows: &mut [u64]) -> [usize; 3] {
+pub fn read_list(text: &[u8], rows: &mut [u64]) -> [usize; 4] {
     // SAFETY: as in `validity`.
     let said = unsafe { raw::slotsheet_read_list(text.as_ptr(), text.len(), rows.as_mut_ptr(), rows.len()) };
-    [said.refusal, said.line, said.entries]
+    [said.refusal, said.line, said.column, said.entries]
 }
 
 pub fn write_list(rows: &[u64], out: &mut [u8]) -> [usize; 3] {
@@ -73,11 +73,11 @@ pub fn answer(text: &[u8], out: &mut [u8]) -> [usize; 3] {
     [said.refusal, said.place, said.length]
 }
 
-pub fn check_sheet(list: &[u8], sheet: &[u8], colours: &mut [u8]) -> [usize; 4] {
+pub fn check_sheet(list: &[u8], sheet: &[u8], colours: &mut [u8]) -> [usize; 5] {
     // SAFETY: as in `validity`.
     let said =
         unsafe { raw::slotsheet_check_sheet(list.as_ptr(), list.len(), sheet.as_ptr(), sheet.len(), colours.as_mut_ptr(), colours.len()) };
-    [said.refusal, said.line, said.groups, said.text]
+    [said.refusal, said.line, said.column, said.groups, said.text]
 }
 
 pub fn fault_line(list: &[u8], sheet: &[u8], room: usize) -> [usize; 3] {

@@ -69,12 +69,14 @@ pub fn sample(numbers: &mut Numbers) -> Sample {
     let n = rows.len();
     let mut list = list_text(numbers, &rows);
     let mut groups = division(numbers, &rows);
-    if chance(numbers, 30) {
+    if chance(numbers, 45) {
         misplace(numbers, &mut groups);
     }
     let mut sheet = sheet_text(&groups);
-    if chance(numbers, 40) {
-        damage(numbers, &mut list, n);
+    match numbers.below(10) {
+        0..=3 => damage(numbers, &mut list, n),
+        4..=5 => damage_line(numbers, &mut list),
+        _ => {}
     }
     if chance(numbers, 60) {
         damage(numbers, &mut sheet, n);
@@ -167,6 +169,39 @@ fn damage(numbers: &mut Numbers, text: &mut Vec<u8>, n: usize) {
     }
 }
 
+/// A slip in one line, more often in one of the first three: it stops early, the more often the more of it stands; a byte is put in, left out or put in
+/// the place of another; a number gets a zero before it or digits behind it; something that cannot be seen stands at the end. Or the text's last line
+/// loses its end.
+fn damage_line(numbers: &mut Numbers, text: &mut Vec<u8>) {
+    let starts: Vec<usize> = (0..text.len()).filter(|&i| i == 0 || text[i - 1] == b'\n').collect();
+    if starts.is_empty() {
+        return;
+    }
+    let few = if chance(numbers, 40) { starts.len().min(3) } else { starts.len() };
+    let start = starts[numbers.below(few as u64) as usize];
+    let end = (start..text.len()).find(|&i| text[i] == b'\n').unwrap_or(text.len());
+    let at = start + numbers.below((end - start) as u64 + 1) as usize;
+    let byte = *pick(numbers, b"0123456789 \r\t-.,xepcdg\0\xff");
+    let digits: Vec<usize> = (start..end).filter(|&i| text[i].is_ascii_digit()).collect();
+    match numbers.below(8) {
+        0 | 1 => drop(text.drain(at..end)),
+        2 => text.insert(at, byte),
+        3 if at < end => text[at] = byte,
+        4 if at < end => drop(text.remove(at)),
+        5 if !digits.is_empty() => {
+            let more: &[u8] = *pick(numbers, &[&b"0"[..], b"00", b"000000", b"1234567"]);
+            let place = *pick(numbers, &digits);
+            text.splice(place..place, more.iter().copied());
+        }
+        6 => text.insert(end, *pick(numbers, b" \r\t")),
+        _ => {
+            if text.last() == Some(&b'\n') {
+                text.pop();
+            }
+        }
+    }
+}
+
 fn damage_byte(numbers: &mut Numbers, text: &mut Vec<u8>) {
     let byte = *pick(numbers, b"0123456789 \n\r\tepcgs-+.\0\xff");
     let at = numbers.below(text.len() as u64 + 1) as usize;
@@ -188,7 +223,7 @@ fn damage_number(numbers: &mut Numbers, text: &mut Vec<u8>, n: usize) {
     let near = numbers.below(n as u64 + 1).to_string();
     let (last, next) = (n.to_string(), (n + 1).to_string());
     let (near, last, next) = (near.as_str(), last.as_str(), next.as_str());
-    let number = *pick(numbers, &[near, near, near, near, last, next, "0", "1", "64", "65", "9999999", "10000000", "01", "00"]);
+    let number = *pick(numbers, &[near, near, near, near, last, next, "0", "1", "64", "65", "65", "9999999", "10000000", "01", "00"]);
     text.splice(start..end, number.bytes());
 }
 

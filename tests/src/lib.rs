@@ -7,6 +7,8 @@ pub mod lists;
 #[cfg(test)]
 mod calls;
 #[cfg(test)]
+mod examples;
+#[cfg(test)]
 mod proved;
 #[cfg(test)]
 mod stored;

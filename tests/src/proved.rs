@@ -21,16 +21,22 @@ const PART: u64 = 100_000;
 fn walk_numbers(answer: Result<bench::Walked, Refused>) -> [u64; 5] {
     match answer {
         Ok(walked) => [0, 0, walked.k, walked.nodes, walked.complete],
-        Err(Refused { why: Refusal::Budget, place }) => [6, 0, 0, place, 0],
-        Err(Refused { why, place }) => [why.number(), place, 0, 0, 0],
+        Err(Refused { why: Refusal::Budget, place, .. }) => [6, 0, 0, place, 0],
+        Err(Refused { why, place, .. }) => [why.number(), place, 0, 0, 0],
     }
 }
 
 /// An answer of one number, with what is said where it is refused.
 fn numbers(answer: Result<usize, Refused>) -> [usize; 3] {
+    let [refusal, place, _, value] = read_numbers(answer);
+    [refusal, place, value]
+}
+
+/// A reading's answer: as above, with the column.
+fn read_numbers(answer: Result<usize, Refused>) -> [usize; 4] {
     match answer {
-        Ok(value) => [0, 0, value],
-        Err(refused) => [refused.why.number() as usize, refused.place as usize, 0],
+        Ok(value) => [0, 0, 0, value],
+        Err(Refused { why, place, column }) => [why.number() as usize, place as usize, column as usize, 0],
     }
 }
 
@@ -113,14 +119,14 @@ fn spent_walks() {
 
 /// What the program prints for a text, by the second program's reading and writing and the walk that is written from document 01.
 fn printed_for(text: &[u8]) -> Vec<u8> {
-    let refused = |number, line| format!("refused {number} line {line}\n").into_bytes();
+    let refused = |why: Refused| format!("{}\n", why.printed()).into_bytes();
     let (mut rows, mut colours, mut out) = ([0; 64], [0; 64], [0; slotsheet::SHEET_BYTES]);
     let n = match list::read(text, &mut rows) {
         Ok(n) => n,
-        Err(why) => return refused(why.why.number(), why.place),
+        Err(why) => return refused(why),
     };
     if let Err(why) = described::fewest(&rows[..n], &mut colours, BUDGET) {
-        return refused(why.why.number(), 0);
+        return refused(why.why.bare());
     }
     let length = sheet::write(&colours[..n], &mut out).expect("the sheet of a division fits");
     out[..length].to_vec()
@@ -197,47 +203,54 @@ fn damaged_texts_and_sheets() {
         for room in [64, sample.room] {
             let (mut lent, mut again) = (Lent::new(room, ROW), Lent::new(room, ROW));
             let said = calls::read_list(&sample.list, lent.part());
-            assert_eq!(said, numbers(list::read(&sample.list, again.part())), "{sample:?}");
+            assert_eq!(said, read_numbers(list::read(&sample.list, again.part())), "{sample:?}");
             assert_eq!(lent, again, "{sample:?}");
             *met.entry((0, said[0])).or_insert(0) += 1;
-            if room == 64 && said[2] <= 12 {
+            if room == 64 && said[3] <= 12 {
                 answered(&sample.list);
             }
         }
         let (mut lent, mut again) = (Lent::new(sample.room, FILL), Lent::new(sample.room, FILL));
         let said = calls::check_sheet(&sample.list, &sample.sheet, lent.part());
         let expected = match sheet::check(&sample.list, &sample.sheet, again.part()) {
-            Ok(k) => [0, 0, k, 0],
+            Ok(k) => [0, 0, 0, k, 0],
             Err(fault) => {
                 let text = if fault.text == Text::List { 1 } else { 2 };
-                [fault.refused.why.number() as usize, fault.refused.place as usize, 0, text]
+                let [refusal, line, column, _] = read_numbers(Err(fault.refused));
+                [refusal, line, column, 0, text]
             }
         };
         assert_eq!(said, expected, "{sample:?}");
         assert_eq!(lent, again, "{sample:?}");
         let part = sheet::preview(&sample.list, &sample.sheet, sample.room);
-        assert_eq!(calls::fault_line(&sample.list, &sample.sheet, sample.room), [said[3], part.offset, part.length], "{sample:?}");
-        *met.entry((said[3], said[0])).or_insert(0) += 1;
+        assert_eq!(calls::fault_line(&sample.list, &sample.sheet, sample.room), [said[4], part.offset, part.length], "{sample:?}");
+        *met.entry((said[4], said[0])).or_insert(0) += 1;
     }
-    let often = |text, refusal| assert!(met.get(&(text, refusal)).is_some_and(|&times| times > cases(50)), "{text} {refusal}: {met:?}");
-    for refusal in [0, 10, 11, 12, 13, 14, 15, 16, 17, 18] {
-        often(0, refusal);
-    }
-    for refusal in [10, 11, 12, 13, 14, 15, 16, 18] {
-        often(1, refusal);
-    }
-    for refusal in [5, 18, 30, 31, 32, 33, 34, 35, 36, 37] {
-        often(2, refusal);
-    }
+    let often = |text, refusals: &[usize], times| {
+        for &refusal in refusals {
+            assert!(met.get(&(text, refusal)).is_some_and(|&met| met > cases(times)), "{text} {refusal}: {met:?}");
+        }
+    };
+    often(0, &[0, 11, 12, 13, 14, 15, 16, 17, 18], 50);
+    often(1, &[11, 12, 13, 14, 15, 16, 18], 50);
+    often(2, &[5, 18, 30, 31, 32, 33, 34, 35, 36, 37], 50);
+    // The kinds of a line that is of no permitted shape.
+    often(0, &[10, 21, 22, 23], 500);
+    often(1, &[10, 21, 22, 23], 250);
 }
 
 /// The wrappers say what the calls say.
 #[test]
 fn safe_wrappers() {
     let mut drawn = Numbers(46);
-    let same = |said: Result<usize, slotsheet::Refused>| match said {
-        Ok(value) => [0, 0, value],
-        Err(refused) => [refused.why.number(), refused.place as usize, 0],
+    let read = |said: Result<usize, slotsheet::Refused>| match said {
+        Ok(value) => [0, 0, 0, value],
+        Err(slotsheet::Refused { why, place, column }) => [why.number(), place as usize, column, 0],
+    };
+    let same = |said| {
+        let [refusal, place, column, value] = read(said);
+        assert_eq!(column, 0);
+        [refusal, place, value]
     };
     for _ in 0..cases(3_000) {
         let rows = any_matrix(&mut drawn);
@@ -256,11 +269,12 @@ fn safe_wrappers() {
             assert_eq!(said, walk.1(&rows, &mut again[..60], 30));
         }
         let sample = sample(&mut drawn);
-        assert_eq!(same(slotsheet::read_list(&sample.list, &mut [0; 64])), calls::read_list(&sample.list, &mut [0; 64]));
+        assert_eq!(read(slotsheet::read_list(&sample.list, &mut [0; 64])), calls::read_list(&sample.list, &mut [0; 64]));
         let said = match slotsheet::check_sheet(&sample.list, &sample.sheet, &mut out[..sample.room]) {
-            Ok(k) => [0, 0, k, 0],
+            Ok(k) => [0, 0, 0, k, 0],
             Err(fault) => {
-                [fault.refused.why.number(), fault.refused.place as usize, 0, if fault.text == slotsheet::Text::List { 1 } else { 2 }]
+                let [refusal, line, column, _] = read(Err(fault.refused));
+                [refusal, line, column, 0, if fault.text == slotsheet::Text::List { 1 } else { 2 }]
             }
         };
         assert_eq!(said, calls::check_sheet(&sample.list, &sample.sheet, &mut again[..sample.room]));

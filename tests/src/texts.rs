@@ -1,4 +1,4 @@
-//! What document 01 says of texts as a whole, on thousands of whole and damaged ones.
+//! What the papers say of texts as a whole, on thousands of whole and damaged ones.
 
 use std::collections::BTreeMap;
 
@@ -108,10 +108,62 @@ fn damaged_samples() {
         };
         *met.entry(number).or_insert(0) += 1;
     }
-    for number in [10, 11, 12, 13, 14, 15, 16, 18] {
+    for number in [10, 21, 22, 23] {
+        assert!(met.get(&(number, 0)).is_some_and(|&times| times > cases(250)), "{number} of a list: {met:?}");
+    }
+    for number in [11, 12, 13, 14, 15, 16, 18] {
         assert!(met.get(&(number, 0)).is_some_and(|&times| times > cases(50)), "{number} of a list: {met:?}");
     }
     for number in [0, 5, 18, 30, 31, 32, 33, 34, 35, 36, 37] {
         assert!(met.get(&(number, 1)).is_some_and(|&times| times > cases(50)), "{number} of a sheet: {met:?}");
     }
+}
+
+/// What stands before the column at which a line goes bad, each number as N; and whether a byte stands there or the line stops.
+fn gone_bad(text: &[u8], line: u64, column: u64) -> (String, bool) {
+    let line = text.split(|&b| b == b'\n').nth(line as usize - 1).expect("a line");
+    let before = &line[..column as usize - 1];
+    let mut told = String::new();
+    for &byte in before {
+        match byte {
+            b'0'..=b'9' if told.ends_with('N') => {}
+            b'0'..=b'9' => told.push('N'),
+            _ => told.push(byte as char),
+        }
+    }
+    (if told.starts_with("c ") { "c ..".into() } else { told }, before.len() < line.len())
+}
+
+/// Lines go bad at every place where one can, by a byte and by a stop, in every kind that can be there, and often.
+#[test]
+fn lines_go_bad_everywhere() {
+    let mut numbers = Numbers(15);
+    let mut met: BTreeMap<(String, bool, u64), usize> = BTreeMap::new();
+    for _ in 0..cases(20_000) {
+        let sample = sample(&mut numbers);
+        if let Err(refused) = list::read(&sample.list, &mut [0; 64]) {
+            if refused.column > 0 {
+                let (before, byte) = gone_bad(&sample.list, refused.place, refused.column);
+                *met.entry((before, byte, refused.why.number())).or_insert(0) += 1;
+            }
+        }
+    }
+    let mut places = vec![("c ..", false, 23), ("p edge N N", false, 23), ("e N N", false, 23)];
+    for before in ["", "p ", "p e", "p ed", "p edg"] {
+        places.extend([(before, true, 10), (before, false, 10)]);
+    }
+    for before in ["e ", "e N ", "p edge ", "p edge N "] {
+        places.extend([(before, true, 21), (before, false, 21)]);
+    }
+    for before in ["c", "p", "p edge", "p edge N", "e", "e N"] {
+        places.extend([(before, true, 22), (before, false, 22)]);
+    }
+    for before in ["e N", "e N N", "p edge N", "p edge N N"] {
+        places.extend([(before, true, 21), (before, true, 22)]);
+    }
+    for (before, byte, number) in &places {
+        let times = met.get(&(before.to_string(), *byte, *number)).copied().unwrap_or(0);
+        assert!(times >= cases(12), "{before:?} {byte} {number} is met {times} times: {met:?}");
+    }
+    assert_eq!(met.len(), places.iter().collect::<std::collections::BTreeSet<_>>().len(), "{met:?}");
 }

@@ -19,7 +19,7 @@ fn five_cycle() -> Vec<u64> {
 }
 
 fn spent(nodes: u64) -> Result<Walked, Refused> {
-    Err(Refused { why: Refusal::Budget, place: nodes })
+    Err(Refused { place: nodes, ..Refusal::Budget.bare() })
 }
 
 #[test]

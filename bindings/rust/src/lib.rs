@@ -25,11 +25,14 @@ mod table;
 pub use refusal::Beside;
 pub use table::{Refusal, BYTES, ENTRIES, LIST_BYTES, NODES, SHEET_BYTES, STACK_BYTES, VERSION};
 
-/// A refusal with what is "also returned" beside it: row, line, index or nodes, by document 01's table; 0 where it names nothing.
+/// A refusal with what is "also returned" beside it: row, line, index or nodes; 0 where there is nothing.
 #[derive(Clone, Copy, Debug, PartialEq, Eq)]
 pub struct Refused {
     pub why: Refusal,
     pub place: u64,
+    /// Of a line of a list that is of no permitted shape (10, 21, 22, 23), in bytes from 1: where it can no longer begin any permitted line, one past
+    /// its end where it merely stops. 0 of every other refusal.
+    pub column: usize,
 }
 
 /// An accepted walk.
@@ -60,10 +63,12 @@ pub struct Fault {
 /// ```
 /// let refused = slotsheet::read_list(b"p edge 2 1\ne 1 1\n", &mut [0; 64]).unwrap_err();
 /// assert_eq!(refused.to_string(), "line 2: here an entry clashes with itself");
+/// let refused = slotsheet::read_list(b"p edge 2 1\ne 1 2", &mut [0; 64]).unwrap_err();
+/// assert_eq!(refused.to_string(), "line 2, column 6: the last line stops here without its line end");
 /// ```
 impl fmt::Display for Refused {
     fn fmt(&self, f: &mut fmt::Formatter) -> fmt::Result {
-        f.write_str(&self.why.sentence(self.place, b""))
+        f.write_str(&self.why.sentence(self.place, self.column, b""))
     }
 }
 
@@ -83,7 +88,8 @@ impl Fault {
     /// assert_eq!(fault.sentence(shown), "sheet: line 4: entry 2 clashes with an earlier entry of its group");
     /// ```
     pub fn sentence(&self, shown: &[u8]) -> String {
-        format!("{}: {}", self.text, self.refused.why.sentence(self.refused.place, shown))
+        let Refused { why, place, column } = self.refused;
+        format!("{}: {}", self.text, why.sentence(place, column, shown))
     }
 }
 
@@ -97,12 +103,17 @@ impl fmt::Display for Fault {
 impl std::error::Error for Refused {}
 impl std::error::Error for Fault {}
 
-/// The answer, or the refusal of this number at this place.
-fn told<T>(refusal: usize, place: u64, accepted: T) -> Result<T, Refused> {
+/// The answer, or the refusal of this number at this line and column.
+fn told_at<T>(refusal: usize, place: u64, column: usize, accepted: T) -> Result<T, Refused> {
     if refusal == 0 {
         return Ok(accepted);
     }
-    Err(Refused { why: Refusal::of(refusal), place })
+    Err(Refused { why: Refusal::of(refusal), place, column })
+}
+
+/// The answer, or the refusal of this number at this place, which has no column.
+fn told<T>(refusal: usize, place: u64, accepted: T) -> Result<T, Refused> {
+    told_at(refusal, place, 0, accepted)
 }
 
 /// Whether rows are a list: 1 to 4.
@@ -143,11 +154,12 @@ pub fn plain(rows: &[u64], colours: &mut [u8], budget: u64) -> Result<Walked, Re
     walked(unsafe { raw::slotsheet_plain(rows.as_ptr(), rows.len(), colours.as_mut_ptr(), colours.len(), budget) })
 }
 
-/// Reads a clash text: 18, then 10 to 17, each with its line. Writes the first n rows and returns n.
+/// Reads a clash text: 18, then 10 to 17 and 21 to 23, each with its line, and 10, 21, 22 and 23 with their column. Writes the first n rows and
+/// returns n.
 pub fn read_list(text: &[u8], rows: &mut [u64]) -> Result<usize, Refused> {
     // SAFETY: as in `validity`.
     let said = unsafe { raw::slotsheet_read_list(text.as_ptr(), text.len(), rows.as_mut_ptr(), rows.len()) };
-    told(said.refusal, said.line as u64, said.entries)
+    told_at(said.refusal, said.line as u64, said.column, said.entries)
 }
 
 /// Writes a list's clash text and returns its length: 1 to 4, 19.
@@ -165,12 +177,15 @@ pub fn write_sheet(colours: &[u8], out: &mut [u8]) -> Result<usize, Refused> {
 }
 
 /// Writes the very bytes that the program `slotsheet` prints for a clash text, and returns their number: the sheet of its fewest groups, by a walk of
-/// at most [`NODES`] nodes, or "refused R line L" and a line feed. 19 where they do not all fit; [`SHEET_BYTES`] are enough.
+/// at most [`NODES`] nodes, or "refused R line L" (of 10, 21, 22 and 23 "refused R line L column C") and a line feed. 19 where they do not all fit;
+/// [`SHEET_BYTES`] are enough.
 ///
 /// ```
 /// let mut out = [0; slotsheet::SHEET_BYTES];
 /// let length = slotsheet::answer(b"p edge 2 1\ne 1 3\n", &mut out).unwrap();
 /// assert_eq!(&out[..length], b"refused 14 line 2\n");
+/// let length = slotsheet::answer(b"p edge 2 1\ne 1\n", &mut out).unwrap();
+/// assert_eq!(&out[..length], b"refused 22 line 2 column 4\n");
 /// ```
 pub fn answer(text: &[u8], out: &mut [u8]) -> Result<usize, Refused> {
     // SAFETY: as in `validity`.
@@ -184,7 +199,7 @@ pub fn check_sheet(list: &[u8], sheet: &[u8], colours: &mut [u8]) -> Result<usiz
     let said =
         unsafe { raw::slotsheet_check_sheet(list.as_ptr(), list.len(), sheet.as_ptr(), sheet.len(), colours.as_mut_ptr(), colours.len()) };
     let text = if said.text == 1 { Text::List } else { Text::Sheet };
-    told(said.refusal, said.line as u64, said.groups).map_err(|refused| Fault { text, refused })
+    told_at(said.refusal, said.line as u64, said.column, said.groups).map_err(|refused| Fault { text, refused })
 }
 
 /// The line at fault in a check with so many colour bytes, without its line feed, as a part of the text that holds it: empty at that text's end

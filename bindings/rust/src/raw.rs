@@ -26,6 +26,7 @@ pub struct Walk {
 pub struct Reading {
     pub refusal: usize,
     pub line: usize,
+    pub column: usize,
     pub entries: usize,
 }
 
@@ -40,6 +41,7 @@ pub struct Writing {
 pub struct Checking {
     pub refusal: usize,
     pub line: usize,
+    pub column: usize,
     pub groups: usize,
     pub text: usize,
 }

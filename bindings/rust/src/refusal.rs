@@ -10,6 +10,8 @@ pub enum Beside {
     Row,
     /// A line, counted from 1; the number of lines plus one for a fault at a text's end.
     Line,
+    /// A line, counted from 1, and a column, in bytes from 1: where the line can no longer begin any permitted line.
+    Spot,
     /// The index of a colour byte, counted from 0.
     Index,
     /// The nodes that the walk entered.
@@ -22,12 +24,12 @@ impl Refusal {
         TABLE.iter().map(|row| row.refusal)
     }
 
-    /// The number that document 01 gives.
+    /// Its number in the table of refusals.
     pub fn number(self) -> usize {
         self as usize
     }
 
-    /// The name that document 01 gives, as "ONE-SIDED".
+    /// Its name, as "ONE-SIDED".
     pub fn name(self) -> &'static str {
         self.row().name
     }
@@ -37,19 +39,23 @@ impl Refusal {
         self.row().beside
     }
 
-    /// In words for people. `place` is what was returned beside it; `shown` is the line at fault, or empty where it is not at hand.
+    /// In words for people. `place` is what was returned beside it, and `column` the column, 0 where none was; `shown` is the line at fault, or
+    /// empty where it is not at hand.
     ///
     /// ```
-    /// let said = slotsheet::Refusal::Twice.sentence(7, b"12");
+    /// let said = slotsheet::Refusal::Twice.sentence(7, 0, b"12");
     /// assert_eq!(said, "line 7: entry 12 stands in an earlier group");
+    /// let said = slotsheet::Refusal::Unended.sentence(7, 6, b"");
+    /// assert_eq!(said, "line 7, column 6: the last line stops here without its line end");
     /// ```
-    pub fn sentence(self, place: u64, shown: &[u8]) -> String {
+    pub fn sentence(self, place: u64, column: usize, shown: &[u8]) -> String {
         let entry = match std::str::from_utf8(shown) {
             Ok(number) if (1..=7).contains(&shown.len()) && shown.iter().all(u8::is_ascii_digit) => format!("entry {number}"),
             _ => "the entry on this line".to_string(),
         };
         let next = place.wrapping_add(1).to_string();
-        self.row().sentence.replace("{place}", &place.to_string()).replace("{next}", &next).replace("{entry}", &entry)
+        let said = self.row().sentence.replace("{place}", &place.to_string()).replace("{column}", &column.to_string());
+        said.replace("{next}", &next).replace("{entry}", &entry)
     }
 
     fn row(self) -> &'static Row {
@@ -58,6 +64,6 @@ impl Refusal {
 
     /// The refusal of a number that the library answered; it answers no other.
     pub(crate) fn of(number: usize) -> Refusal {
-        Self::all().find(|refusal| refusal.number() == number).expect("a number of document 01's table")
+        Self::all().find(|refusal| refusal.number() == number).expect("a number of the table")
     }
 }

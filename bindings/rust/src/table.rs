@@ -3,7 +3,7 @@
 use crate::refusal::Beside;
 
 /// The version of the interface.
-pub const VERSION: &str = "1.1.0";
+pub const VERSION: &str = "2.0.0";
 /// The most entries of a list.
 pub const ENTRIES: usize = 64;
 /// The most bytes of a text that is read.
@@ -17,7 +17,7 @@ pub const NODES: usize = 1_000_000;
 /// The stack that a thread needs to make any call, with room to spare.
 pub const STACK_BYTES: usize = 262_144;
 
-/// Each refusal by its name in document 01 (`Itself` for SELF); its value is its number there.
+/// Each refusal by its name (`Itself` for SELF); its value is its number.
 #[derive(Clone, Copy, Debug, PartialEq, Eq, PartialOrd, Ord, Hash)]
 pub enum Refusal {
     /// Over 64 rows, or colour bytes when writing a sheet.
@@ -34,7 +34,7 @@ pub enum Refusal {
     Budget = 6,
     /// Over 64 levels of merging.
     Deep = 7,
-    /// Line of no permitted shape, or last line without its line feed.
+    /// A word unknown, or an empty line.
     Line = 10,
     /// An e line before any p line, or no p line at all.
     Headless = 11,
@@ -54,6 +54,12 @@ pub enum Refusal {
     Long = 18,
     /// Output buffer too small for the whole text.
     Full = 19,
+    /// Where a number must start and no digit stands, or a digit after a leading zero or a seventh digit.
+    Digit = 21,
+    /// Another byte, or a stop, where a space or the line's end could have followed a word or a number.
+    Space = 22,
+    /// Last line unended though otherwise whole: line, and column one past its end.
+    Unended = 23,
     /// Wrong shape for this place, or last line unended.
     SheetLine = 30,
     /// Member outside 1 to n.
@@ -82,7 +88,7 @@ pub(crate) struct Row {
 }
 
 #[rustfmt::skip]
-pub(crate) const TABLE: [Row; 26] = [
+pub(crate) const TABLE: [Row; 29] = [
     Row { refusal: Refusal::Many, name: "MANY", beside: Beside::Nothing, sentence: "there are more than 64 entries" },
     Row { refusal: Refusal::Stray, name: "STRAY", beside: Beside::Row, sentence: "entry {next} is marked as clashing with an entry that the list does not have (row {place})" },
     Row { refusal: Refusal::Itself, name: "SELF", beside: Beside::Row, sentence: "entry {next} is marked as clashing with itself (row {place})" },
@@ -90,7 +96,7 @@ pub(crate) const TABLE: [Row; 26] = [
     Row { refusal: Refusal::Short, name: "SHORT", beside: Beside::Nothing, sentence: "there is less room for group numbers than the list has entries" },
     Row { refusal: Refusal::Budget, name: "BUDGET", beside: Beside::Nodes, sentence: "the search for the fewest sittings was given up after {place} steps, as many as it was allowed" },
     Row { refusal: Refusal::Deep, name: "DEEP", beside: Beside::Nothing, sentence: "the search went more than 64 levels deep" },
-    Row { refusal: Refusal::Line, name: "LINE", beside: Beside::Line, sentence: "line {place}: this is neither \"c ..\", \"p edge N M\" nor \"e U V\", or it is the last line and its line end is missing" },
+    Row { refusal: Refusal::Line, name: "LINE", beside: Beside::Spot, sentence: "line {place}, column {column}: this line is empty, or its word is none of \"c\", \"p edge\" and \"e\"" },
     Row { refusal: Refusal::Headless, name: "HEADLESS", beside: Beside::Line, sentence: "line {place}: no line \"p edge N M\" has come before this clash, or before the list's end" },
     Row { refusal: Refusal::Second, name: "SECOND", beside: Beside::Line, sentence: "line {place}: this is a second line \"p edge N M\"" },
     Row { refusal: Refusal::Size, name: "SIZE", beside: Beside::Line, sentence: "line {place}: this line states more than 64 entries" },
@@ -100,6 +106,9 @@ pub(crate) const TABLE: [Row; 26] = [
     Row { refusal: Refusal::Room, name: "ROOM", beside: Beside::Line, sentence: "line {place}: this line states more entries than there is room for" },
     Row { refusal: Refusal::Long, name: "LONG", beside: Beside::Nothing, sentence: "the text is longer than 65,536 bytes" },
     Row { refusal: Refusal::Full, name: "FULL", beside: Beside::Nothing, sentence: "there is too little room to write the whole text" },
+    Row { refusal: Refusal::Digit, name: "DIGIT", beside: Beside::Spot, sentence: "line {place}, column {column}: here a number must start, and there is none; or a number goes on here after a leading 0 or its seventh digit" },
+    Row { refusal: Refusal::Space, name: "SPACE", beside: Beside::Spot, sentence: "line {place}, column {column}: here, after a word or a number, one space or the line's end must come, and there is something else (it may not be visible), or the line stops" },
+    Row { refusal: Refusal::Unended, name: "UNENDED", beside: Beside::Spot, sentence: "line {place}, column {column}: the last line stops here without its line end" },
     Row { refusal: Refusal::SheetLine, name: "SHEET LINE", beside: Beside::Line, sentence: "line {place}: this is not the kind of line that belongs here, or it is the last line and its line end is missing" },
     Row { refusal: Refusal::Member, name: "MEMBER", beside: Beside::Line, sentence: "line {place}: {entry} is not in the list" },
     Row { refusal: Refusal::Order, name: "ORDER", beside: Beside::Line, sentence: "line {place}: {entry} is out of order: entries rise within a group, and groups by their first entries" },

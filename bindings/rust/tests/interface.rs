@@ -18,14 +18,18 @@ fn every_refusal_has_its_row() {
             Beside::Nothing => "-",
             Beside::Row => "row",
             Beside::Line => "line",
+            Beside::Spot => "spot",
             Beside::Index => "index",
             Beside::Nodes => "nodes",
         };
         assert_eq!([&row[1], &row[2], &row[3]], [&refusal.number().to_string(), refusal.name(), beside]);
-        let said = |entry: &str| row[5].replace("{place}", "7").replace("{next}", "8").replace("{entry}", entry);
-        assert_eq!(refusal.sentence(7, b"12"), said("entry 12"));
+        let said = |entry: &str| {
+            let numbers = row[5].replace("{place}", "7").replace("{column}", "3").replace("{next}", "8");
+            numbers.replace("{entry}", entry)
+        };
+        assert_eq!(refusal.sentence(7, 3, b"12"), said("entry 12"));
         for shown in ["", "size 1", "12345678", "1 2", "-1"] {
-            assert_eq!(refusal.sentence(7, shown.as_bytes()), said("the entry on this line"));
+            assert_eq!(refusal.sentence(7, 3, shown.as_bytes()), said("the entry on this line"));
         }
     }
 }
@@ -52,6 +56,9 @@ fn refusals_in_words() {
     assert_eq!(stray.to_string(), "entry 2 is marked as clashing with an entry that the list does not have (row 1)");
     let spent = slotsheet::fewest(&[0, 0], &mut [0; 2], 2).unwrap_err();
     assert_eq!(spent.to_string(), "the search for the fewest sittings was given up after 2 steps, as many as it was allowed");
+    let gone = slotsheet::read_list(b"p edge 2 1\ne  1 2\n", &mut [0; 2]).unwrap_err();
+    let number = "here a number must start, and there is none; or a number goes on here after a leading 0 or its seventh digit";
+    assert_eq!(gone.to_string(), format!("line 2, column 3: {number}"));
     let (list, sheet) = (b"p edge 2 0\n", b"groups 2\nsize 2\n1\n2\nsize 1\n2\n");
     let fault = slotsheet::check_sheet(list, sheet, &mut [0; 2]).unwrap_err();
     let error: Box<dyn std::error::Error> = fault.into();
