@@ -116,7 +116,9 @@ line-small s room f k c r e = go (decLt longestText (length s))
     -- 18 names no line
     go : Dec (longestText < length s) → told r k .line < 10000000
     go (yes h) =
-        let q : Refused Long 0 0 ≡ Refused f k c = sym (ap (λ (b : Bool). cond b (readFromUpTo mostEntries (linesOf s) room 1 start (noRowsUpTo mostEntries)) (refusedUpTo mostEntries Long 0) .answer) (lt-leb (length s) longestText h)) ∙ e in
+        let q : Refused Long 0 0 ≡ Refused f k c = sym
+        (ap (λ (b : Bool). cond b (readFromUpTo mostEntries (linesOf s) room 1 start (noRowsUpTo mostEntries)) (refusedUpTo mostEntries Long 0)
+        .answer) (lt-leb (length s) longestText h)) ∙ e in
         let z : 0 ≡ k = cc in
         omega (arith, line-told r k)
     go (no h) = omega (arith, line-told r k, named-most (linesOf s) f k names, lines-most s)
@@ -133,13 +135,15 @@ column-told r c = go (entry r .beside)
     go anIndex = omega arith
 
 -- no line has more than 65,536 bytes
-pub column-small : (s : List ℕ) (room : ℕ) (f : Fault) (k c : ℕ) (r : Refusal) → readOf s room .answer ≡ Refused f k c → toldAt r 0 c .column < 10000000
+pub column-small : (s : List ℕ) (room : ℕ) (f : Fault) (k c : ℕ) (r : Refusal) → readOf s room .answer ≡ Refused f k c
+    → toldAt r 0 c .column < 10000000
 column-small s room f k c r e = go (decLt longestText (length s))
   where
     go : Dec (longestText < length s) → toldAt r 0 c .column < 10000000
     go (yes h) =
         let q : Refused Long 0 0 ≡ Refused f k c =
-        sym (ap (λ (b : Bool). cond b (readFromUpTo mostEntries (linesOf s) room 1 start (noRowsUpTo mostEntries)) (refusedUpTo mostEntries Long 0) .answer)
+        sym (ap (λ (b : Bool). cond b (readFromUpTo mostEntries (linesOf s) room 1 start (noRowsUpTo mostEntries)) (refusedUpTo mostEntries Long 0)
+        .answer)
         (lt-leb (length s) longestText h)) ∙ e in
         let z : 0 ≡ c = cc in
         omega (arith, column-told r c)
@@ -157,7 +161,15 @@ pub place-length : (l c : ℕ) → length (placeText l c) ≤ 29
 place-length l c =
     cond-cases (λ (x : List ℕ). length x ≤ 29) (eqb c 0) (lineText l) (spotText l c)
     (λ _. omega (arith, one-length lineWord l, numeral-length l .1))
-    (λ _. omega (arith, length-append lineWord (numeral l ++ oneLine columnWord c), length-append (numeral l) (oneLine columnWord c), one-length columnWord c, numeral-length l .1, numeral-length c .1))
+    (λ _. omega (
+      arith,
+      length-append lineWord (numeral l ++ oneLine columnWord c),
+      length-append (numeral l) (oneLine columnWord c),
+      one-length
+          columnWord c,
+      numeral-length l .1,
+      numeral-length c .1,
+    ))
 
 spot-told : (r k c : ℕ) → 1 ≤ c → refusedWord ++ (numeral r ++ spotText k c) ≡ refusedText r k c
 spot-told r k c h = ap (λ (x : List ℕ). refusedWord ++ (numeral r ++ x)) (sym (place-some k c (λ e. omega arith)))

@@ -44,7 +44,8 @@ furthest-begins g [] l f fs =
     (r .0, or-l (takes (take (max (reach l g) 0) l ++ r .0) g) false (subst (λ (k : ℕ). T (takes (take k l ++ r .0) g)) (sym e) (r .1)))
 furthest-begins g (h ∷ hs) l f fs = go (decLe (furthest (h ∷ hs) l) (reach l g)) (furthest-begins h hs l (fs .0) (fs .1))
   where
-    go : Dec (furthest (h ∷ hs) l ≤ reach l g) → Begins (h ∷ hs) (take (furthest (h ∷ hs) l) l) → Begins (g ∷ h ∷ hs) (take (furthest (g ∷ h ∷ hs) l) l)
+    go : Dec (furthest (h ∷ hs) l ≤ reach l g) → Begins (h ∷ hs) (take (furthest (h ∷ hs) l) l)
+        → Begins (g ∷ h ∷ hs) (take (furthest (g ∷ h ∷ hs) l) l)
     go (yes b) q =
         let r = reach-begins l g f in
         let e : max (reach l g) (furthest (h ∷ hs) l) ≡ reach l g = omega arith in (
@@ -62,7 +63,8 @@ furthest-begins g (h ∷ hs) l f fs = go (decLe (furthest (h ∷ hs) l) (reach l
 furthest-most : (gs : Grammar) (l : List ℕ) (j : ℕ) → j ≤ length l → (y : List ℕ) → T (permits gs (take j l ++ y)) → j ≤ furthest gs l
 furthest-most [] l j h y t = absurd t
 furthest-most (g ∷ gs) l j h y t =
-    ⊎-elim (λ a. omega (arith, reach-most l j y g h a)) (λ a. omega (arith, furthest-most gs l j h y a)) (or-cases (takes (take j l ++ y) g) (permits gs (take j l ++ y)) t)
+    ⊎-elim (λ a. omega (arith, reach-most l j y g h a)) (λ a. omega (arith, furthest-most gs l j h y a))
+    (or-cases (takes (take j l ++ y) g) (permits gs (take j l ++ y)) t)
 
 -- ---- the column
 
@@ -84,8 +86,11 @@ rest-of (suc i) (suc j) (b ∷ l) h = let r = rest-of i j l (le-of-suc-le-suc h)
 
 begins-shorter : (gs : Grammar) (l : List ℕ) (i j : ℕ) → i ≤ j → Begins gs (take j l) → Begins gs (take i l)
 begins-shorter gs l i j h b =
-    let r = rest-of i j l h in
-    (r .0 ++ b .0, subst (λ (x : List ℕ). T (permits gs x)) (ap (λ (x : List ℕ). x ++ b .0) (sym (r .1)) ∙ append-assoc (take i l) (r .0) (b .0)) (b .1))
+    let r = rest-of i j l h in (
+      r .0 ++ b .0,
+      subst (λ (x : List ℕ). T (permits gs x)) (ap (λ (x : List ℕ). x ++ b .0) (sym (r .1)) ∙ append-assoc (take i l) (r .0) (b .0))
+          (b .1),
+    )
 
 -- there is one such column
 pub astray-one : (gs : Grammar) (l : List ℕ) (c d : ℕ) → Astray gs l c → Astray gs l d → c ≡ d
@@ -136,7 +141,8 @@ furthest-line g (i ∷ gs) l = go (furthest-line i gs l)
 
 -- a line that is not permitted: some permitted line expects h at the column, and the fault is that of h
 pub spot-due : (g : Pieces) (gs : Grammar) (l : List ℕ) → permits (g ∷ gs) l ≡ false
-    → (h : Pieces) × Due (g ∷ gs) (take (column (g ∷ gs) l - 1) l) h × (spotIn (g ∷ gs) l .fault ≡ faultAt h (digitAt (drop (column (g ∷ gs) l - 1) l)))
+    → (h : Pieces) × Due (g ∷ gs) (take (column (g ∷ gs) l - 1) l) h ×
+    (spotIn (g ∷ gs) l .fault ≡ faultAt h (digitAt (drop (column (g ∷ gs) l - 1) l)))
 spot-due g gs l e =
     let r = furthest-line g gs l in
     let z : reach l (r .0) ≡ furthest (g ∷ gs) l + 1 - 1 = omega (arith, r .2) in (

@@ -16,7 +16,8 @@ empty-text : readNumbers (readOf ([]) 64 .answer) ≡ record { number = 11; plac
 empty-text = refl
 
 -- "p edge 0 0" with its line feed is a list
-no-entries : readNumbers (readOf (112 ∷ 32 ∷ 101 ∷ 100 ∷ 103 ∷ 101 ∷ 32 ∷ 48 ∷ 32 ∷ 48 ∷ 10 ∷ []) 0 .answer) ≡ record { number = 0; place = 0; column = 0; size = 0 }
+no-entries : readNumbers (readOf (112 ∷ 32 ∷ 101 ∷ 100 ∷ 103 ∷ 101 ∷ 32 ∷ 48 ∷ 32 ∷ 48 ∷ 10 ∷ []) 0 .answer) ≡ record
+    { number = 0; place = 0; column = 0; size = 0 }
 no-entries = refl
 
 -- a lone line feed is one empty line
@@ -25,26 +26,31 @@ unfolding spotOf
 lone-feed = refl
 
 -- the last line lacks its line feed
-unended-last : readNumbers (readOf (99 ∷ 32 ∷ 120 ∷ 10 ∷ 112 ∷ 32 ∷ 101 ∷ 100 ∷ 103 ∷ 101 ∷ 32 ∷ 49 ∷ 32 ∷ 48 ∷ []) 64 .answer) ≡ record { number = 23; place = 2; column = 11; size = 0 }
+unended-last : readNumbers (readOf (99 ∷ 32 ∷ 120 ∷ 10 ∷ 112 ∷ 32 ∷ 101 ∷ 100 ∷ 103 ∷ 101 ∷ 32 ∷ 49 ∷ 32 ∷ 48 ∷ []) 64 .answer) ≡ record
+    { number = 23; place = 2; column = 11; size = 0 }
 unfolding spotOf
 unended-last = refl
 
 -- a number with a leading zero
-leading-zero : readNumbers (readOf (112 ∷ 32 ∷ 101 ∷ 100 ∷ 103 ∷ 101 ∷ 32 ∷ 51 ∷ 32 ∷ 49 ∷ 10 ∷ 101 ∷ 32 ∷ 48 ∷ 49 ∷ 32 ∷ 51 ∷ 10 ∷ []) 64 .answer) ≡ record { number = 21; place = 2; column = 4; size = 0 }
+leading-zero : readNumbers (readOf (112 ∷ 32 ∷ 101 ∷ 100 ∷ 103 ∷ 101 ∷ 32 ∷ 51 ∷ 32 ∷ 49 ∷ 10 ∷ 101 ∷ 32 ∷ 48 ∷ 49 ∷ 32 ∷ 51 ∷ 10 ∷ []) 64 .answer)
+    ≡ record { number = 21; place = 2; column = 4; size = 0 }
 unfolding spotOf
 leading-zero = refl
 
 -- eight digits, of which the first is a zero
-eight-digits : readNumbers (readOf (112 ∷ 32 ∷ 101 ∷ 100 ∷ 103 ∷ 101 ∷ 32 ∷ 51 ∷ 32 ∷ 48 ∷ 48 ∷ 48 ∷ 48 ∷ 48 ∷ 48 ∷ 48 ∷ 49 ∷ 10 ∷ []) 64 .answer) ≡ record { number = 21; place = 1; column = 11; size = 0 }
+eight-digits : readNumbers (readOf (112 ∷ 32 ∷ 101 ∷ 100 ∷ 103 ∷ 101 ∷ 32 ∷ 51 ∷ 32 ∷ 48 ∷ 48 ∷ 48 ∷ 48 ∷ 48 ∷ 48 ∷ 48 ∷ 49 ∷ 10 ∷ []) 64 .answer)
+    ≡ record { number = 21; place = 1; column = 11; size = 0 }
 unfolding spotOf
 eight-digits = refl
 
 -- 65 entries
-sixty-five : readNumbers (readOf (112 ∷ 32 ∷ 101 ∷ 100 ∷ 103 ∷ 101 ∷ 32 ∷ 54 ∷ 53 ∷ 32 ∷ 48 ∷ 10 ∷ []) 64 .answer) ≡ record { number = 13; place = 1; column = 0; size = 0 }
+sixty-five : readNumbers (readOf (112 ∷ 32 ∷ 101 ∷ 100 ∷ 103 ∷ 101 ∷ 32 ∷ 54 ∷ 53 ∷ 32 ∷ 48 ∷ 10 ∷ []) 64 .answer) ≡ record
+    { number = 13; place = 1; column = 0; size = 0 }
 sixty-five = refl
 
 -- fewer lent rows than n, found at the p line though a later line is faulty
-few-rows : readNumbers (readOf (112 ∷ 32 ∷ 101 ∷ 100 ∷ 103 ∷ 101 ∷ 32 ∷ 51 ∷ 32 ∷ 48 ∷ 10 ∷ 120 ∷ 10 ∷ []) 2 .answer) ≡ record { number = 17; place = 1; column = 0; size = 0 }
+few-rows : readNumbers (readOf (112 ∷ 32 ∷ 101 ∷ 100 ∷ 103 ∷ 101 ∷ 32 ∷ 51 ∷ 32 ∷ 48 ∷ 10 ∷ 120 ∷ 10 ∷ []) 2 .answer) ≡ record
+    { number = 17; place = 1; column = 0; size = 0 }
 few-rows = refl
 
 -- 11 stands before 14

@@ -106,7 +106,9 @@ module _ (most : ℕ) where
 
     module _ (z : length g ≡ most) (few : h .n ≤ most) where
       keeps : (st : Step) → does ≡ st → Kept most (h .count) st
-      keeps st p = subst (Kept most (h .count)) p (step-kept most h room (spotOf (take (e - a) (drop a s))) (shapeOf (take (e - a) (drop a s))) most (λ n x y. x) few)
+      keeps st p =
+          subst (Kept most (h .count)) p (step-kept most h room (spotOf (take (e - a) (drop a s))) (shapeOf (take (e - a) (drop a s))) most
+          (λ n x y. x) few)
 
       pub ends-below : (x : Head) (i j : ℕ) → does ≡ Edge x i j → (i < most) × (j < most)
       ends-below x i j p = let d = keeps (Edge x i j) p in (omega (arith, d .0, d .2), omega (arith, d .0, d .3))
@@ -132,7 +134,9 @@ module _ (most : ℕ) where
   from-bounded : (t : Text) (room l : ℕ) (h : Head) (g : List ℕ) (k : ℕ) → ((n : ℕ) → n ≤ most → n ≤ room → n ≤ k) → h .n ≤ k → Bounded k (readFromUpTo most t room l h g .answer)
   from-bounded done room l h g k f a = cond-cases (λ (x : Found). Bounded k (x .answer)) (h .seen) _ _ (λ _. cond-cases (λ (x : Found). Bounded k (x .answer)) (eqb (h .count) (h .m)) _ _ (λ _. a) (λ _. tt)) (λ _. tt)
   from-bounded (unended x) room l h g k f a = tt
-  from-bounded (ended x t) room l h g k f a = go (stepUpTo most h room (spotOf x) (shapeOf x)) (step-kept most h room (spotOf x) (shapeOf x) k f a) (λ h g. from-bounded t room (l + 1) h g k f)
+  from-bounded (ended x t) room l h g k f a =
+      go (stepUpTo most h room (spotOf x) (shapeOf x)) (step-kept most h room (spotOf x) (shapeOf x) k f a)
+      (λ h g. from-bounded t room (l + 1) h g k f)
     where
       go : (st : Step) → Kept k (h .count) st → ((h : Head) (g : List ℕ) → h .n ≤ k → Bounded k (readFromUpTo most t room (l + 1) h g .answer))
           → Bounded k (afterUpTo most st g l (readFromUpTo most t room (l + 1)) .answer)

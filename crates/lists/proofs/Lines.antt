@@ -159,8 +159,10 @@ module _ (most : ℕ) where
       let F : Found → Type 0 = λ x. From (h .seen) done k (x .answer) in
       cond-cases F (h .seen) _ _ (λ _. cond-cases F (eqb (h .count) (h .m)) _ _ (λ _. tt) (λ _. (0, omega arith, omega arith)))
       (λ e. (0, omega arith, (bare-first (h .seen) done e, inr (omega arith))))
-  from-names (unended l) room k h g = (0, omega arith, named-shape (h .seen) (unended l) (spotOf l .fault) 1 (spot-shape l) (omega arith, omega arith))
-  from-names (ended l t) room k h g = go (stepUpTo most h room (spotOf l) (shapeOf l)) (step-in most h room (spotOf l) (shapeOf l) (spot-shape l)) (from-names t room (k + 1))
+  from-names (unended l) room k h g =
+      (0, omega arith, named-shape (h .seen) (unended l) (spotOf l .fault) 1 (spot-shape l) (omega arith, omega arith))
+  from-names (ended l t) room k h g =
+      go (stepUpTo most h room (spotOf l) (shapeOf l)) (step-in most h room (spotOf l) (shapeOf l) (spot-shape l)) (from-names t room (k + 1))
     where
       go : (st : Step) → InLine (h .seen) (shapeOf l) st → ((x : Head) (y : List ℕ) → From (x .seen) t (k + 1) (readFromUpTo most t room (k + 1) x y .answer))
           → From (h .seen) (ended l t) k (afterUpTo most st g k (readFromUpTo most t room (k + 1)) .answer)

@@ -99,7 +99,8 @@ module _ (w : List ℕ) (at n : ℕ) (d : Bool) (z : n ≤ 0) where
   pub fault-past : length w ≤ at → faultAt (held n (patternOf (drop at w))) d ≡ Space
   fault-past h = ap (λ (g : Pieces). faultAt g d) (from-none ∙ pattern-past w at h)
 
-  pub fault-piece : at < length w → (x : Piece) → pieceOf (getD w at 0) ≡ x → faultAt (held n (patternOf (drop at w))) d ≡ faultAt (x ∷ patternOf (drop (at + 1) w)) d
+  pub fault-piece : at < length w → (x : Piece) → pieceOf (getD w at 0) ≡ x → faultAt (held n (patternOf (drop at w))) d ≡ faultAt
+      (x ∷ patternOf (drop (at + 1) w)) d
   fault-piece h x e = ap (λ (g : Pieces). faultAt g d) (from-none ∙ pattern-at w at h ∙ ap (λ (y : Piece). y ∷ patternOf (drop (at + 1) w)) e)
 
 -- the line may end there
@@ -114,7 +115,8 @@ ends-piece w at n h = held-ends n (patternOf (drop at w)) ∙ ap ends? (pattern-
     last false = refl
 
     go : (a : Bool) → eqb (getD w at 0) 48 ≡ a → (b : Bool) → eqb (getD w at 0) 32 ≡ b
-        → ends? (cond a number (cond b space (cond (eqb (getD w at 0) 42) anything (letter (getD w at 0)))) ∷ patternOf (drop (at + 1) w)) ≡ eqb (getD w at 0) 42
+        → ends? (cond a number (cond b space (cond (eqb (getD w at 0) 42) anything (letter (getD w at 0)))) ∷ patternOf (drop (at + 1) w)) ≡ eqb
+        (getD w at 0) 42
     go true e b f = let z = eqb-true (getD w at 0) 48 e in sym (ne-eqb (getD w at 0) 42 (λ y. omega arith))
     go false e true f = let z = eqb-true (getD w at 0) 32 f in sym (ne-eqb (getD w at 0) 42 (λ y. omega arith))
     go false e false f = last (eqb (getD w at 0) 42)

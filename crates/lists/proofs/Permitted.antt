@@ -109,13 +109,16 @@ proper-is n b = rw (le-leb 1 (suc n) (suc-le-suc zero-le)) (go (eqb b 48))
         back true = refl
         back false = refl
 
-takes-number : (l : List ℕ) (g : Pieces) → takes l (number ∷ g) ≡ cond (proper (length (digits l)) (getD l 0 0)) (takes (drop (length (digits l)) l) g) false
+takes-number : (l : List ℕ) (g : Pieces) → takes l (number ∷ g) ≡ cond (proper (length (digits l)) (getD l 0 0))
+    (takes (drop (length (digits l)) l) g) false
 takes-number [] g = refl
 takes-number (b ∷ l) g = go (digit b)
   where
     go : (d : Bool) → onward false (takes l) (cond d (some (more (cond (eqb b 48) 0 6) ∷ g)) none)
         ≡ cond (proper (length (cond d (b ∷ digits l) [])) b) (takes (drop (length (cond d (b ∷ digits l) [])) (b ∷ l)) g) false
-    go true = takes-more l (cond (eqb b 48) 0 6) g ∙ ap (λ (y : Bool). cond y (takes (drop (length (digits l)) l) g) false) (proper-is (length (digits l)) b)
+    go true =
+        takes-more l (cond (eqb b 48) 0 6) g ∙ ap (λ (y : Bool). cond y (takes (drop (length (digits l)) l) g) false)
+        (proper-is (length (digits l)) b)
     go false = refl
 
 -- ---- one number, and two
@@ -140,7 +143,10 @@ takes-end : (n : ℕ) (l : List ℕ) → n ≤ length l → takes (drop n l) [] 
 takes-end zero [] h = refl
 takes-end zero (b ∷ l) h = sym (ne-eqb 0 (suc (length l)) (λ e. omega arith))
 takes-end (suc n) [] h = absurd (not-suc-le-zero h)
-takes-end (suc n) (b ∷ l) h = takes-end n l (le-of-suc-le-suc h) ∙ T-ext (eqb n (length l)) (eqb (suc n) (suc (length l))) (λ t. eqb-of (suc n) (suc (length l)) (ap suc (eqb→eq n (length l) t))) (λ t. let e = eqb→eq (suc n) (suc (length l)) t in eqb-of n (length l) (omega arith))
+takes-end (suc n) (b ∷ l) h =
+    takes-end n l (le-of-suc-le-suc h) ∙ T-ext (eqb n (length l)) (eqb (suc n) (suc (length l)))
+    (λ t. eqb-of (suc n) (suc (length l)) (ap suc (eqb→eq n (length l) t))) (λ t. let e = eqb→eq (suc n) (suc (length l)) t in
+    eqb-of n (length l) (omega arith))
 
 takes-alone : (l : List ℕ) → takes l (number ∷ []) ≡ only (aloneOf l)
 takes-alone l = takes-number l [] ∙ go (proper (length (digits l)) (getD l 0 0))
@@ -177,7 +183,8 @@ takes-pair l = takes-number l (space ∷ number ∷ []) ∙ go (proper (length (
     gap true u x = takes-alone x ∙ beside u (aloneOf x)
     gap false u x = refl
 
-    go : (y : Bool) → cond y (takes (drop (length (digits l)) l) (space ∷ number ∷ [])) false ≡ both (second l (cond y (Is (value 0 (digits l)) (length (digits l))) Not))
+    go : (y : Bool) → cond y (takes (drop (length (digits l)) l) (space ∷ number ∷ [])) false ≡ both
+        (second l (cond y (Is (value 0 (digits l)) (length (digits l))) Not))
     go true =
         takes-spelled (32 ∷ []) (drop (length (digits l)) l) (number ∷ [])
         ∙ ap (λ (x : List ℕ). cond (starts (32 ∷ []) (drop (length (digits l)) l)) (takes x (number ∷ [])) false) (drop-drop 1 (length (digits l)) l)
@@ -195,7 +202,8 @@ p-not-e : (l : List ℕ) → starts pWord l ≡ true → starts eWord l ≡ fals
 p-not-e [] h = refl
 p-not-e (b ∷ l) h = go (eqb 112 b) refl h
   where
-    go : (y : Bool) → eqb 112 b ≡ y → cond y (starts (32 ∷ 101 ∷ 100 ∷ 103 ∷ 101 ∷ 32 ∷ []) l) false ≡ true → cond (eqb 101 b) (starts (32 ∷ []) l) false ≡ false
+    go : (y : Bool) → eqb 112 b ≡ y → cond y (starts (32 ∷ 101 ∷ 100 ∷ 103 ∷ 101 ∷ 32 ∷ []) l) false ≡ true
+        → cond (eqb 101 b) (starts (32 ∷ []) l) false ≡ false
     go true e h = rw (← eqb-true 112 b e)
     go false e h = absurd (subst T (sym h) tt)
 
@@ -210,7 +218,8 @@ permits-shaped c l =
     ∙ go (starts c l) (starts pWord l) (starts eWord l) (p-not-e l) (pairOf (drop 7 l)) (pairOf (drop 2 l))
   where
     go : (x y z : Bool) → (y ≡ true → z ≡ false) → (p q : Pair)
-        → (cond x true false || (cond y (both p) false || (cond z (both q) false || false))) ≡ shaped (cond x Comment (cond y (asP p) (cond z (asE q) Bad)))
+        → (cond x true false || (cond y (both p) false || (cond z (both q) false || false))) ≡ shaped
+        (cond x Comment (cond y (asP p) (cond z (asE q) Bad)))
     go true y z h p q = refl
     go false true z h (Both n m) q = refl
     go false true z h Neither q = ap (λ (w : Bool). cond w (both q) false || false) (h refl)

@@ -115,7 +115,8 @@ reach-most l zero y g h t = zero-le
 reach-most [] (suc k) y g h t = absurd (not-suc-le-zero h)
 reach-most (b ∷ l) (suc k) y g h t = go (next g b) t (λ i. reach-most l k y i (le-of-suc-le-suc h))
   where
-    go : (o : Option Pieces) → T (onward false (takes (take k l ++ y)) o) → ((i : Pieces) → T (takes (take k l ++ y) i) → k ≤ reach l i) → suc k ≤ onward 0 (λ h. suc (reach l h)) o
+    go : (o : Option Pieces) → T (onward false (takes (take k l ++ y)) o) → ((i : Pieces) → T (takes (take k l ++ y) i) → k ≤ reach l i)
+        → suc k ≤ onward 0 (λ h. suc (reach l h)) o
     go none t r = absurd t
     go (some i) t r = suc-le-suc (r i t)
 
@@ -134,7 +135,8 @@ pub takes-reach : (l : List ℕ) (g : Pieces) → T (takes l g) → reach l g �
 takes-reach [] g t = refl
 takes-reach (b ∷ l) g t = go (next g b) t (takes-reach l)
   where
-    go : (o : Option Pieces) → T (onward false (takes l) o) → ((i : Pieces) → T (takes l i) → reach l i ≡ length l) → onward 0 (λ h. suc (reach l h)) o ≡ suc (length l)
+    go : (o : Option Pieces) → T (onward false (takes l) o) → ((i : Pieces) → T (takes l i) → reach l i ≡ length l)
+        → onward 0 (λ h. suc (reach l h)) o ≡ suc (length l)
     go none t r = absurd t
     go (some i) t r = ap suc (r i t)
 
@@ -143,7 +145,8 @@ pub follow-takes : (x y : List ℕ) (g h : Pieces) → follow x g ≡ some h →
 follow-takes [] y g h e = let z : g ≡ h = cc in ap (takes y) z
 follow-takes (b ∷ x) y g h e = go (next g b) e (λ i. follow-takes x y i h)
   where
-    go : (o : Option Pieces) → onward none (follow x) o ≡ some h → ((i : Pieces) → follow x i ≡ some h → takes (x ++ y) i ≡ takes y h) → onward false (takes (x ++ y)) o ≡ takes y h
+    go : (o : Option Pieces) → onward none (follow x) o ≡ some h → ((i : Pieces) → follow x i ≡ some h → takes (x ++ y) i ≡ takes y h)
+        → onward false (takes (x ++ y)) o ≡ takes y h
     go none e r = let z : _≡_ {A = ℕ} 0 1 = cc in absurd (omega arith)
     go (some i) e r = r i e
 
@@ -152,7 +155,8 @@ pub left-stuck : (l : List ℕ) (g : Pieces) → reach l g < length l → next (
 left-stuck [] g h = absurd (not-suc-le-zero h)
 left-stuck (b ∷ l) g h = go (next g b) refl h (left-stuck l)
   where
-    go : (o : Option Pieces) → next g b ≡ o → onward 0 (λ i. suc (reach l i)) o < suc (length l) → ((i : Pieces) → reach l i < length l → next (left l i) (getD l (reach l i) 0) ≡ none)
+    go : (o : Option Pieces) → next g b ≡ o → onward 0 (λ i. suc (reach l i)) o < suc (length l)
+        → ((i : Pieces) → reach l i < length l → next (left l i) (getD l (reach l i) 0) ≡ none)
         → next (onward g (left l) o) (getD (b ∷ l) (onward 0 (λ i. suc (reach l i)) o) 0) ≡ none
     go none e h r = e
     go (some i) e h r = r i (le-of-suc-le-suc h)
@@ -162,7 +166,8 @@ pub left-short : (l : List ℕ) (g : Pieces) → reach l g ≡ length l → take
 left-short [] g h = refl
 left-short (b ∷ l) g h = go (next g b) h (left-short l)
   where
-    go : (o : Option Pieces) → onward 0 (λ i. suc (reach l i)) o ≡ suc (length l) → ((i : Pieces) → reach l i ≡ length l → takes l i ≡ ends? (left l i))
+    go : (o : Option Pieces) → onward 0 (λ i. suc (reach l i)) o ≡ suc (length l)
+        → ((i : Pieces) → reach l i ≡ length l → takes l i ≡ ends? (left l i))
         → onward false (takes l) o ≡ ends? (onward g (left l) o)
     go none h r = absurd (omega arith)
     go (some i) h r = r i (omega arith)

@@ -49,7 +49,8 @@ edge-shape : (i j : ℕ) → i + 1 < 10000000 → j + 1 < 10000000 → shapeOf (
 edge-shape i j hi hj = ap asE (pair-back (i + 1) (j + 1) hi hj)
 
 module _ (most : ℕ) where
-  edge-step : (n m c room : ℕ) (p : Spot) (i j : ℕ) → i < j → j < n → stepUpTo most (known n m c) room p (E (i + 1) (j + 1)) ≡ Edge (known n m (c + 1)) i j
+  edge-step : (n m c room : ℕ) (p : Spot) (i j : ℕ) → i < j → j < n → stepUpTo most (known n m c) room p (E (i + 1) (j + 1)) ≡ Edge
+      (known n m (c + 1)) i j
   edge-step n m c room p i j a b =
       let u : i + 1 - 1 ≡ i = omega arith in
       let v : j + 1 - 1 ≡ j = omega arith in

@@ -114,7 +114,8 @@ module _ (most : ℕ) where
   from-clean : (t : Text) (room l : ℕ) (h : Head) (g : List ℕ) → Known h g → Cleaned (readFromUpTo most t room l h g)
   from-clean done room l h g k = cond-cases Cleaned (h .seen) _ _ (λ _. cond-cases Cleaned (eqb (h .count) (h .m)) _ _ (λ _. k .clean) (λ _. tt)) (λ _. tt)
   from-clean (unended x) room l h g k = tt
-  from-clean (ended x t) room l h g k = go (stepUpTo most h room (spotOf x) (shapeOf x)) (known-step h g room (spotOf x) (shapeOf x) k) (from-clean t room (l + 1))
+  from-clean (ended x t) room l h g k =
+      go (stepUpTo most h room (spotOf x) (shapeOf x)) (known-step h g room (spotOf x) (shapeOf x) k) (from-clean t room (l + 1))
     where
       go : (st : Step) → After g st → ((h : Head) (g : List ℕ) → Known h g → Cleaned (readFromUpTo most t room (l + 1) h g)) → Cleaned (afterUpTo most st g l (readFromUpTo most t room (l + 1)))
       go (StopAt p) d r = tt

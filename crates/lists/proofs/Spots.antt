@@ -109,7 +109,8 @@ spot-e l e =
     subst (λ (x : List ℕ). spotFrom 0 x eLine ≡ spotIn permitted x) (sym (m .1))
     (sees-spot permitted (101 ∷ m .0) eLine (sees-third cLine pLine eLine (101 ∷ m .0) (refl, refl) (refl, refl) (omega arith)))
 
-pub spot-none : (l : List ℕ) → starts (99 ∷ []) l ≡ false → starts (112 ∷ []) l ≡ false → starts (101 ∷ []) l ≡ false → spotOf l ≡ record { fault = Line; column = 1 }
+pub spot-none : (l : List ℕ) → starts (99 ∷ []) l ≡ false → starts (112 ∷ []) l ≡ false → starts (101 ∷ []) l ≡ false
+    → spotOf l ≡ record { fault = Line; column = 1 }
 unfolding spotOf
 spot-none [] a b c = refl
 spot-none (x ∷ l) a b c =

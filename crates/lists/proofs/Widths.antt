@@ -68,10 +68,12 @@ module _ (most : ℕ) where
   from-placed : (t : Text) (room k : ℕ) (h : Head) (g : List ℕ) → Placed (widest t + 1) (readFromUpTo most t room k h g .answer)
   from-placed done room k h g =
       let F : Found → Type 0 = λ x. Placed 1 (x .answer) in
-      cond-cases F (h .seen) _ _ (λ _. cond-cases F (eqb (h .count) (h .m)) _ _ (λ _. tt) (λ _. (zero-le, λ x. absurd x))) (λ _. (zero-le, λ x. absurd x))
+      cond-cases F (h .seen) _ _ (λ _. cond-cases F (eqb (h .count) (h .m)) _ _ (λ _. tt) (λ _. (zero-le, λ x. absurd x)))
+      (λ _. (zero-le, λ x. absurd x))
   from-placed (unended l) room k h g = let w = spot-astray l .within in (w .1, λ _. w .0)
   from-placed (ended l t) room k h g =
-      go (stepUpTo most h room (spotOf l) (shapeOf l)) (step-narrow (length l + 1) h room (spotOf l) (shapeOf l) (spot-astray l .within)) (from-placed t room (k + 1))
+      go (stepUpTo most h room (spotOf l) (shapeOf l)) (step-narrow (length l + 1) h room (spotOf l) (shapeOf l) (spot-astray l .within))
+      (from-placed t room (k + 1))
     where
       go : (st : Step) → Narrow (length l + 1) st → ((x : Head) (y : List ℕ) → Placed (widest t + 1) (readFromUpTo most t room (k + 1) x y .answer))
           → Placed (max (length l) (widest t) + 1) (afterUpTo most st g k (readFromUpTo most t room (k + 1)) .answer)
@@ -79,7 +81,8 @@ module _ (most : ℕ) where
       go (Stop f) d r = (zero-le, λ x. absurd (d x))
       go (Go x) d r = placed-more (widest t + 1) (max (length l) (widest t) + 1) (readFromUpTo most t room (k + 1) x g .answer) (omega arith) (r x g)
       go (Edge x i j) d r =
-          placed-more (widest t + 1) (max (length l) (widest t) + 1) (readFromUpTo most t room (k + 1) x (join g i j) .answer) (omega arith) (r x (join g i j))
+          placed-more (widest t + 1) (max (length l) (widest t) + 1) (readFromUpTo most t room (k + 1) x (join g i j) .answer) (omega arith)
+          (r x (join g i j))
 
 widest-put : (b : ℕ) (t : Text) → widest (put b t) ≤ suc (widest t)
 widest-put b done = omega arith
@@ -100,6 +103,7 @@ pub read-column : (most longest : ℕ) (s : List ℕ) (room : ℕ) (f : Fault) (
     → (c ≤ length s + 1) × (T (ofShape f) → 1 ≤ c)
 read-column most longest s room f k c e =
     subst (Placed (length s + 1)) e (cond-cases (λ (x : Found). Placed (length s + 1) (x .answer)) (leb (length s) longest) _ _
-    (λ _. placed-more most (widest (linesOf s) + 1) (length s + 1) (readFromUpTo most (linesOf s) room 1 start (noRowsUpTo most) .answer) (omega (arith, widest-le s))
+    (λ _. placed-more most (widest (linesOf s) + 1) (length s + 1) (readFromUpTo most (linesOf s) room 1 start (noRowsUpTo most) .answer)
+    (omega (arith, widest-le s))
     (from-placed most (linesOf s) room 1 start (noRowsUpTo most)))
     (λ _. (zero-le, λ x. absurd x)))

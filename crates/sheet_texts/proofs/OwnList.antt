@@ -42,7 +42,8 @@ use Rattle.sheet_texts.proofs.Calls.{calls-up-to-free}
 
 module _ (most : ℕ) where
   -- a step that does not stop is the same
-  same-step : (h : Head) (room : ℕ) (p : Spot) (s : Shape) → ((f : Fault) → ¬ (stepUpTo most h room p s ≡ Stop f)) → stepUpTo most h most p s ≡ stepUpTo most h room p s
+  same-step : (h : Head) (room : ℕ) (p : Spot) (s : Shape) → ((f : Fault) → ¬ (stepUpTo most h room p s ≡ Stop f))
+      → stepUpTo most h most p s ≡ stepUpTo most h room p s
   same-step h room p Bad n = refl
   same-step h room p Comment n = refl
   same-step h room p (E u v) n = refl
@@ -72,15 +73,18 @@ module _ (most : ℕ) where
   same-from (unended l) room k h g n e = refl
   same-from (ended l t) room k h g n e = go (stepUpTo most h room (spotOf l) (shapeOf l)) refl e (same-from t room (k + 1))
     where
-      here : (st : Step) → stepUpTo most h room (spotOf l) (shapeOf l) ≡ st → ((f : Fault) → ¬ (st ≡ Stop f)) → stepUpTo most h most (spotOf l) (shapeOf l) ≡ st
+      here : (st : Step) → stepUpTo most h room (spotOf l) (shapeOf l) ≡ st → ((f : Fault) → ¬ (st ≡ Stop f))
+          → stepUpTo most h most (spotOf l) (shapeOf l) ≡ st
       here st q n = same-step h room (spotOf l) (shapeOf l) (λ f z. n f (sym q ∙ z)) ∙ q
 
-      step : (st : Step) → stepUpTo most h most (spotOf l) (shapeOf l) ≡ st → afterUpTo most (stepUpTo most h most (spotOf l) (shapeOf l)) g k (readFromUpTo most t most (k + 1)) ≡ afterUpTo most st g k (readFromUpTo most t most (k + 1))
+      step : (st : Step) → stepUpTo most h most (spotOf l) (shapeOf l) ≡ st → afterUpTo most (stepUpTo most h most (spotOf l) (shapeOf l)) g k
+          (readFromUpTo most t most (k + 1)) ≡ afterUpTo most st g k (readFromUpTo most t most (k + 1))
       step st q = ap (λ (x : Step). afterUpTo most x g k (readFromUpTo most t most (k + 1))) q
 
       go : (st : Step) → stepUpTo most h room (spotOf l) (shapeOf l) ≡ st → afterUpTo most st g k (readFromUpTo most t room (k + 1)) .answer ≡ Read n
           → ((h : Head) (g : List ℕ) (n : ℕ) → readFromUpTo most t room (k + 1) h g .answer ≡ Read n → readFromUpTo most t most (k + 1) h g ≡ readFromUpTo most t room (k + 1) h g)
-          → afterUpTo most (stepUpTo most h most (spotOf l) (shapeOf l)) g k (readFromUpTo most t most (k + 1)) ≡ afterUpTo most st g k (readFromUpTo most t room (k + 1))
+          → afterUpTo most (stepUpTo most h most (spotOf l) (shapeOf l)) g k (readFromUpTo most t most (k + 1)) ≡ afterUpTo most st g k
+          (readFromUpTo most t room (k + 1))
       go (StopAt p) q e r = let z : _≡_ {A = ℕ} 0 1 = cc in absurd (omega arith)
       go (Stop f) q e r = let z : _≡_ {A = ℕ} 0 1 = cc in absurd (omega arith)
       go (Go y) q e r = step (Go y) (here (Go y) q (λ f z. let w : _≡_ {A = ℕ} 0 1 = cc in omega arith)) ∙ r y g n e

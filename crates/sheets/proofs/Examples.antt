@@ -31,7 +31,8 @@ front =
 
 -- the number, the line, k, and the text at fault
 abbrev Gives : List ℕ → ℕ → ℕ → ℕ → ℕ → Type 0
-Gives s number line groups text = numbersOf (checkOf five s 5 .answer) ≡ record { number = number; line = line; column = 0; groups = groups; text = text }
+Gives s number line groups text =
+    numbersOf (checkOf five s 5 .answer) ≡ record { number = number; line = line; column = 0; groups = groups; text = text }
 
 -- "size 1", "5"
 accepted-is : Gives (front ++ 115 ∷ 105 ∷ 122 ∷ 101 ∷ 32 ∷ 49 ∷ 10 ∷ 53 ∷ 10 ∷ []) 0 0 3 0

@@ -105,7 +105,8 @@ module _ (most : ℕ) where
   from-roomy done k h g =
       cond-cases (λ (x : Found). Roomy (x .answer)) (h .seen) _ _ (λ _. cond-cases (λ (x : Found). Roomy (x .answer)) (eqb (h .count) (h .m)) _ _ (λ _. tt) (λ _. tt)) (λ _. tt)
   from-roomy (unended l) k h g = roomy-shape (spotOf l .fault) k (spotOf l .column) (spot-shape l)
-  from-roomy (ended l t) k h g = go (stepList most h most (spotOf l) (shapeOf l)) (step-enough h (spotOf l) (shapeOf l) (spot-shape l)) (from-roomy t (k + 1))
+  from-roomy (ended l t) k h g =
+      go (stepList most h most (spotOf l) (shapeOf l)) (step-enough h (spotOf l) (shapeOf l) (spot-shape l)) (from-roomy t (k + 1))
     where
       go : (st : ListStep) → Enough st → ((h : Head) (g : List ℕ) → Roomy (readFromUpTo most t most (k + 1) h g .answer)) → Roomy (afterList most st g k (readFromUpTo most t most (k + 1)) .answer)
       go (StopListAt p) e r = roomy-shape (p .fault) k (p .column) e

@@ -203,7 +203,8 @@ module _ (most longest : ℕ) (list s old new : List ℕ) where
   pub check-refused : (f : SheetFault) (k : ℕ) → CheckPromiseUpTo most longest list s old (Refused f k) new
       → (n : ℕ) × (rows : List ℕ) × ListOf most longest list n rows × (n ≤ length old) × SheetRefused longest n (matrix rows) s (numberOf f) k × (new ≡ old)
   check-refused f k x =
-      ⊎-elim (λ w. let e : Refused f k ≡ Unread (w .0) (w .1) (w .2) = answer-is _ x _ (w .3 .same) in let z : _≡_ {A = ℕ} 0 1 = cc in absurd (omega arith))
+      ⊎-elim (λ w. let e : Refused f k ≡ Unread (w .0) (w .1) (w .2) =
+      answer-is _ x _ (w .3 .same) in let z : _≡_ {A = ℕ} 0 1 = cc in absurd (omega arith))
       (λ v. ⊎-elim (λ w. let e : Refused f k ≡ Short = answer-is _ x _ (w .2 .same) in let z : _≡_ {A = ℕ} 0 1 = cc in absurd (omega arith))
       (λ w. let o = sheetUpTo most longest (w .0) (matrix (w .1)) s in let e = answer-is _ x o (w .2 .same) in (
         w .0,
@@ -218,7 +219,8 @@ module _ (most longest : ℕ) (list s old new : List ℕ) where
   pub check-accepted : (k : ℕ) → CheckPromiseUpTo most longest list s old (Accepted k) new
       → (n : ℕ) × (rows : List ℕ) × ListOf most longest list n rows × (n ≤ length old) × SheetOf longest n (matrix rows) s k (take n new) × (drop n new ≡ drop n old)
   check-accepted k x =
-      ⊎-elim (λ w. let e : Accepted k ≡ Unread (w .0) (w .1) (w .2) = answer-is _ x _ (w .3 .same) in let z : _≡_ {A = ℕ} 0 1 = cc in absurd (omega arith))
+      ⊎-elim (λ w. let e : Accepted k ≡ Unread (w .0) (w .1) (w .2) =
+      answer-is _ x _ (w .3 .same) in let z : _≡_ {A = ℕ} 0 1 = cc in absurd (omega arith))
       (λ v. ⊎-elim (λ w. let e : Accepted k ≡ Short = answer-is _ x _ (w .2 .same) in let z : _≡_ {A = ℕ} 0 1 = cc in absurd (omega arith))
       (λ w. open-way (w .0) (w .1) (w .2)) v)
       (check-ways most longest list s (length old))

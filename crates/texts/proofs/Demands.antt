@@ -63,10 +63,12 @@ module _ (most longest : ℕ) (s : List ℕ) where
   pub one-list : (n m : ℕ) (rows cols : List ℕ) → ListOf most longest s n rows → ListOf most longest s m cols → (n ≡ m) × (rows ≡ cols)
   one-list = lists.list-one most longest s
 
-  pub one-list-refusal : (room f g k j c d : ℕ) → ListRefused most longest s room f k c → ListRefused most longest s room g j d → (f ≡ g) × (k ≡ j) × (c ≡ d)
+  pub one-list-refusal : (room f g k j c d : ℕ) → ListRefused most longest s room f k c → ListRefused most longest s room g j d
+      → (f ≡ g) × (k ≡ j) × (c ≡ d)
   one-list-refusal = lists.list-refusal-one most longest s
 
-  pub list-or-refusal : (n : ℕ) (rows : List ℕ) → ListOf most longest s n rows → (room : ℕ) → n ≤ room → (f k c : ℕ) → ¬ ListRefused most longest s room f k c
+  pub list-or-refusal : (n : ℕ) (rows : List ℕ) → ListOf most longest s n rows → (room : ℕ) → n ≤ room → (f k c : ℕ)
+      → ¬ ListRefused most longest s room f k c
   list-or-refusal = lists.list-unrefused most longest s
 
   -- With as many rows lent as a list can have entries, 17 cannot arise.
@@ -83,7 +85,8 @@ module _ (list s old new : List ℕ) where
   check-accepted = checking.check-accepted 64 65536 list s old new
 
   -- Not accepted: the clash text is refused, the colour bytes are fewer than n, or the sheet is refused, in this order. Nothing lent is written.
-  pub check-unread : (f : Fault) (k c : ℕ) → CheckPromise list s old (Unread f k c) new → ListRefused 64 65536 list 64 (numberOf (listRefusal f)) k c × (new ≡ old)
+  pub check-unread : (f : Fault) (k c : ℕ) → CheckPromise list s old (Unread f k c) new
+      → ListRefused 64 65536 list 64 (numberOf (listRefusal f)) k c × (new ≡ old)
   check-unread = checking.check-unread 64 65536 list s old new
 
   pub check-short : CheckPromise list s old Short new → (n : ℕ) × (rows : List ℕ) × ListOf 64 65536 list n rows × (length old < n) × (new ≡ old)
@@ -95,7 +98,8 @@ module _ (list s old new : List ℕ) where
 
   module _ (a : Checked) (p : CheckPromise list s old a new) where
     -- Each of these wherever the words say so, with that number, that line, that column, and which text is at fault.
-    pub check-unread-so : (f k c : ℕ) → ListRefused 64 65536 list 64 f k c → numbersOf a ≡ record { number = f; line = k; column = c; groups = 0; text = theList }
+    pub check-unread-so : (f k c : ℕ) → ListRefused 64 65536 list 64 f k c
+        → numbersOf a ≡ record { number = f; line = k; column = c; groups = 0; text = theList }
     check-unread-so = checking.check-unread-so 64 65536 list s old new a p
 
     module _ (n : ℕ) (rows : List ℕ) (l : ListOf 64 65536 list n rows) where

@@ -57,9 +57,11 @@ column-one t f k c d = go (some? (eqb f) shapeFaults)
     go false x y = x ∙ sym y
 
 module _ (most longest : ℕ) (s : List ℕ) where
-  pub list-refusal-one : (room f g k j c d : ℕ) → ListRefused most longest s room f k c → ListRefused most longest s room g j d → (f ≡ g) × (k ≡ j) × (c ≡ d)
+  pub list-refusal-one : (room f g k j c d : ℕ) → ListRefused most longest s room f k c → ListRefused most longest s room g j d
+      → (f ≡ g) × (k ≡ j) × (c ≡ d)
   list-refusal-one room f g k j c d a b =
-      let o = refusal-one longest s (Has most (linesOf s) room) listOrder (Lacks (linesOf s)) (has-known most (linesOf s) room) (lacks-one (linesOf s)) f g k j (a .0) (b .0) in
+      let o = refusal-one longest s (Has most (linesOf s) room) listOrder (Lacks (linesOf s)) (has-known most (linesOf s) room)
+      (lacks-one (linesOf s)) f g k j (a .0) (b .0) in
       let e = subst (λ (x : ℕ). ColumnOf (linesOf s) f x d) (sym (o .1)) (subst (λ (x : ℕ). ColumnOf (linesOf s) x j d) (sym (o .0)) (b .1)) in
       (o .0, o .1, column-one (linesOf s) f k c d (a .1) e)
 
@@ -109,7 +111,8 @@ module _ (most longest : ℕ) (s : List ℕ) where
 
     -- a list for which there is room is not refused
     pub list-unrefused : (room : ℕ) → n ≤ room → (f k c : ℕ) → ¬ ListRefused most longest s room f k c
-    list-unrefused room h f k c a = refusal-none longest s (Has most (linesOf s) room) listOrder (Lacks (linesOf s)) (list-faultless room h) f k (a .0)
+    list-unrefused room h f k c a =
+        refusal-none longest s (Has most (linesOf s) room) listOrder (Lacks (linesOf s)) (list-faultless room h) f k (a .0)
 
     -- its clashes are a valid matrix
     pub list-valid : Valid n (matrix rows)
@@ -148,10 +151,12 @@ module _ (most longest : ℕ) (s : List ℕ) where
       go (Refused f k c) e = absurd (list-unrefused n rows x room h (numberOf f) k c (list-refused most longest s room f k c e))
 
   -- each text that is refused in words is refused so
-  pub list-returned : (room f k c : ℕ) → ListRefused most longest s room f k c → (g : Fault) × (readUpTo most longest s room .answer ≡ Refused g k c) × (numberOf g ≡ f)
+  pub list-returned : (room f k c : ℕ) → ListRefused most longest s room f k c
+      → (g : Fault) × (readUpTo most longest s room .answer ≡ Refused g k c) × (numberOf g ≡ f)
   list-returned room f k c h = go (readUpTo most longest s room .answer) refl
     where
-      go : (a : Reading) → readUpTo most longest s room .answer ≡ a → (g : Fault) × (readUpTo most longest s room .answer ≡ Refused g k c) × (numberOf g ≡ f)
+      go : (a : Reading) → readUpTo most longest s room .answer ≡ a → (g : Fault) × (readUpTo most longest s room .answer ≡ Refused g k c) ×
+          (numberOf g ≡ f)
       go (Read m) e = let r = list-accepted most longest s room m e in absurd (list-unrefused m _ (r .0) room (r .1) f k c h)
       go (Refused g j d) e =
           let o = list-refusal-one room (numberOf g) f j k d c (list-refused most longest s room g j d e) h in

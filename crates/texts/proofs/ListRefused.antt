@@ -64,7 +64,8 @@ module _ (most : ℕ) (t0 : Text) (room : ℕ) where
   line-means : (l : List ℕ) (t : Text) (i : ℕ) → Onward t (i + 1) → Onward (ended l t) i
   line-means l t i next h g told = go (shapeOf l) refl
     where
-      go : (s : Shape) → shapeOf l ≡ s → Means (afterUpTo most (stepUpTo most h room (spotOf l) s) g (i + 1) (readFromUpTo most t room (i + 1 + 1)) .answer)
+      go : (s : Shape) → shapeOf l ≡ s
+          → Means (afterUpTo most (stepUpTo most h room (spotOf l) s) g (i + 1) (readFromUpTo most t room (i + 1 + 1)) .answer)
       go Bad e = (
         bad most t0 room i h l t told e,
         column-shape t0 (spotOf l .fault) (i + 1) (spotOf l .column) (spot-shape l)
@@ -81,7 +82,8 @@ module _ (most : ℕ) (t0 : Text) (room : ℕ) where
           (λ x. (large most t0 room i h l t told n m e q (leb-false n most x), refl)))
       go (E u v) e =
           let F : Step → Type 0 = λ s. Means (afterUpTo most s g (i + 1) (readFromUpTo most t room (i + 1 + 1)) .answer) in
-          let out : h .seen ≡ true → Outside (h .n) u ⊎ Outside (h .n) v → Means (Refused Vertex (i + 1) 0) = λ q o. (vertex most t0 room i h l t told u v e q o, refl) in
+          let out : h .seen ≡ true → Outside (h .n) u ⊎ Outside (h .n) v
+          → Means (Refused Vertex (i + 1) 0) = λ q o. (vertex most t0 room i h l t told u v e q o, refl) in
           cond-cases F (h .seen) _ _
           (λ q. cond-cases F (inside (h .n) u) _ _
           (λ a. let x = inside-is (h .n) u a in cond-cases F (inside (h .n) v) _ _
@@ -97,9 +99,11 @@ module _ (most : ℕ) (t0 : Text) (room : ℕ) where
   from-means (unended l) i h g told =
       let e : lineAt t0 (i + 1) ≡ l = told .rest .lines 1 (omega arith) in
       let w = told .rest .forth 1 (shapeOf l) ((omega arith, omega arith), refl) in (
-        shape-found most t0 room (i + 1) (spotOf l .fault) (spot-shape l) (open-has t0 (i + 1) most room l e w (told .rest .open-forth 1 (omega arith) refl)) (w .0)
+        shape-found most t0 room (i + 1) (spotOf l .fault) (spot-shape l)
+            (open-has t0 (i + 1) most room l e w (told .rest .open-forth 1 (omega arith) refl)) (w .0)
             (λ j b. told .clean j (omega arith)),
-        column-shape t0 (spotOf l .fault) (i + 1) (spotOf l .column) (spot-shape l) (subst (λ (x : List ℕ). Astray permitted x (spotOf l .column)) (sym e) (spot-astray l)),
+        column-shape t0 (spotOf l .fault) (i + 1) (spotOf l .column) (spot-shape l) (subst (λ (x : List ℕ). Astray permitted x (spotOf l .column))
+            (sym e) (spot-astray l)),
       )
   from-means (ended l t) i h g told = line-means l t i (from-means t (i + 1)) h g told
 

@@ -101,7 +101,8 @@ module _ (t : Text) (k : ℕ) where
       ∙ ap (λ (c : ℕ). faultAt (b .expected) (digitAt (drop (c - 1) l))) (sym e) ∙ b .kind
 
   went : (f : Fault) (q : Pieces → Bool → Bool) → ((g : Pieces) (d : Bool) → T (q g d) → faultAt g d ≡ f) → Went t k q → Spoilt f
-  went f q p w = record { bad = w .bad; column = w .column; astray = w .astray; expected = w .expected; due = w .due; kind = p (w .expected) _ (w .kind) }
+  went f q p w =
+      record { bad = w .bad; column = w .column; astray = w .astray; expected = w .expected; due = w .due; kind = p (w .expected) _ (w .kind) }
 
   -- by its number
   abbrev pub Shaped : Fault → Type 0
@@ -160,7 +161,8 @@ module _ (t : Text) (k : ℕ) where
           (wents (faultAt (r .0) (digitAt (drop (spotOf l .column - 1) l))) (spotOf l .column) (r .0) (subst (At t k) b w)
           (subst (λ (x : List ℕ). Astray permitted x (spotOf l .column)) (sym e) (spot-astray l))
           (subst (λ (x : List ℕ). Due permitted (take (spotOf l .column - 1) x) (r .0)) (sym e) (r .1))
-          (subst (λ (x : List ℕ). T (dueTest (faultAt (r .0) (digitAt (drop (spotOf l .column - 1) l))) (r .0) (digitAt (drop (spotOf l .column - 1) x)))) (sym e)
+          (subst (λ (x : List ℕ). T (dueTest (faultAt (r .0) (digitAt (drop (spotOf l .column - 1) l))) (r .0)
+          (digitAt (drop (spotOf l .column - 1) x)))) (sym e)
           (due-passes (r .0) (digitAt (drop (spotOf l .column - 1) l)))))
 
       -- of a line without its line feed: its own fault, or 23

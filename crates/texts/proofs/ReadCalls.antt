@@ -23,7 +23,8 @@ abbrev pub refusedWith : ℕ → ℕ → ℕ → Numbers
 refusedWith f k c = record { number = f; place = k; column = c; size = 0 }
 
 -- 18 names no line, and only a fault of shape a column
-numbers-are : (t : Text) (f : Fault) (k c : ℕ) → (numberOf f ≡ numberOf Long → k ≡ 0) → ColumnOf t (numberOf f) k c → readNumbers (Refused f k c) ≡ refusedWith (numberOf f) k c
+numbers-are : (t : Text) (f : Fault) (k c : ℕ) → (numberOf f ≡ numberOf Long → k ≡ 0) → ColumnOf t (numberOf f) k c
+    → readNumbers (Refused f k c) ≡ refusedWith (numberOf f) k c
 numbers-are t Line k c h w = refl
 numbers-are t Digit k c h w = refl
 numbers-are t Space k c h w = refl
@@ -49,7 +50,8 @@ module _ (most longest : ℕ) (s old new : List ℕ) where
         ap (drop n) w ∙ drop-at (take n g) (drop n old) n (r .0 .long),
       )
 
-  pub read-refused : (f : Fault) (k c : ℕ) → ReadPromiseUpTo most longest s old (Refused f k c) new → ListRefused most longest s (length old) (numberOf f) k c × (new ≡ old)
+  pub read-refused : (f : Fault) (k c : ℕ) → ReadPromiseUpTo most longest s old (Refused f k c) new
+      → ListRefused most longest s (length old) (numberOf f) k c × (new ≡ old)
   read-refused f k c x = (
     list-refused most longest s (length old) f k c (sym (x .answer)),
     x .lent ∙ ap (λ (y : Reading). written y (readUpTo most longest s (length old) .rows) old) (sym (x .answer)),

@@ -1,6 +1,6 @@
 // Awkward clash texts from standard input, and what reading answers to each; each accepted list, and some matrices, written again.
 // Before each text stands a line "R B": how many rows are lent, and how many bytes the text has. What this writes is held to the file
-// stdout, which tests/awkward_texts.py makes from document 01 alone.
+// stdout, which tests/awkward_texts.py makes from the papers alone.
 use libc::STDIN_FILENO;
 use lines::Pair;
 use lines::Reader;
@@ -125,10 +125,12 @@ fn put_lines(text: &[u8]) {
 // Reads one text into the lent rows, all 7; of a text that is refused each line is shown where it lies.
 fn trial(text: &[u8], lent: &mut [u64]) {
     match lists::read_list(text, lent) {
-        Reading::Refused(why, line) => {
+        Reading::Refused(why, line, column) => {
             trials::put_refusal(lists::refusal_of(why));
             trials::put(b" line ");
             trials::put_number(line);
+            trials::put(b" column ");
+            trials::put_number(column);
             trials::put(b" ");
             trials::put_kept_rows(lent, 0);
             put_lines(text);

@@ -113,6 +113,8 @@ fn put_checked(m: sheets::Numbers) {
     trials::put_number(m.number);
     trials::put(b" line ");
     trials::put_number(m.line);
+    trials::put(b" column ");
+    trials::put_number(m.column);
     trials::put(b" text ");
     trials::put_number(m.text);
     trials::put(b" groups ");

@@ -24,8 +24,11 @@ slice-aggregate-put-one c = search needs
 put-one-requires : tie.Need-put-one-requires
 put-one-requires c κs =
     let a = c .before .before .before .before .args in
-    let p = c .before .before .before .before .pre in
-    (p .0 .0, room (a .out .now) (placeText (a .l) (a .c)) (lineText (a .l)) (a .at) (place-none (a .l) (a .c) (c .before .before .if1 .taken)) (p .1))
+    let p = c .before .before .before .before .pre in (
+      p .0 .0,
+      room (a .out .now) (placeText (a .l) (a .c)) (lineText (a .l)) (a .at) (place-none (a .l) (a .c) (c .before .before .if1 .taken))
+          (p .1),
+    )
 
 same-length : tie.Need-same-length
 same-length c = search needs
@@ -33,7 +36,8 @@ same-length c = search needs
 returns : tie.Need-returns
 returns c =
     let a = c .before .before .before .before .before .before .before .args in
-    put-same (a .out .now) (a .at) (placeText (a .l) (a .c)) (lineText (a .l)) _ _ (place-none (a .l) (a .c) (c .before .before .before .before .before .if1 .taken)) (c .before .before .put-one .ensures)
+    put-same (a .out .now) (a .at) (placeText (a .l) (a .c)) (lineText (a .l)) _ _
+    (place-none (a .l) (a .c) (c .before .before .before .before .before .if1 .taken)) (c .before .before .put-one .ensures)
 
 slice-aggregate-put-word : tie.Need-slice-aggregate-put-word
 slice-aggregate-put-word c = search needs
@@ -51,7 +55,9 @@ put-number-requires c κs =
     let p = c .before .before .before .before .before .before .before .before .pre in (
       p .0 .0,
       second-room (a .out .now) (a .at) lineWord (numeral (a .l)) (oneLine columnWord (a .c))
-          (room (a .out .now) (placeText (a .l) (a .c)) (spotText (a .l) (a .c)) (a .at) (place-some (a .l) (a .c) (c .before .before .before .before .before .before .if1 .left)) (p .1)) _ _ (c .before .before .before .put-word .ensures),
+          (room (a .out .now) (placeText (a .l) (a .c)) (spotText (a .l) (a .c)) (a .at)
+          (place-some (a .l) (a .c) (c .before .before .before .before .before .before .if1 .left)) (p .1)) _ _
+          (c .before .before .before .put-word .ensures),
     )
 
 slice-aggregate-put-one-2 : tie.Need-slice-aggregate-put-one-2
@@ -63,7 +69,10 @@ put-one-requires-2 c κs =
     let p = c .before .before .before .before .before .before .before .before .before .before .before .before .before .pre in (
       p .0 .1,
       third-room (a .out .now) (a .at) lineWord (numeral (a .l)) (oneLine columnWord (a .c))
-          (room (a .out .now) (placeText (a .l) (a .c)) (spotText (a .l) (a .c)) (a .at) (place-some (a .l) (a .c) (c .before .before .before .before .before .before .before .before .before .before .before .if1 .left)) (p .1)) _ _ (c .before .before .before .before .before .before .before .before .put-word .ensures) _ _ (c .before .before .before .before .put-number .ensures),
+          (room (a .out .now) (placeText (a .l) (a .c)) (spotText (a .l) (a .c)) (a .at)
+          (place-some (a .l) (a .c) (c .before .before .before .before .before .before .before .before .before .before .before .if1 .left)) (p .1)) _
+          _ (c .before .before .before .before .before .before .before .before .put-word .ensures) _ _
+          (c .before .before .before .before .put-number .ensures),
     )
 
 same-length-2 : tie.Need-same-length-2
@@ -73,11 +82,13 @@ returns-2 : tie.Need-returns-2
 returns-2 c =
     let a = c .before .before .before .before .before .before .before .before .before .before .before .before .before .before .before .before .args in
     let p = c .before .before .before .before .before .before .before .before .before .before .before .before .before .before .before .before .pre in
-    let e = place-some (a .l) (a .c) (c .before .before .before .before .before .before .before .before .before .before .before .before .before .before .if1 .left) in
+    let e = place-some (a .l) (a .c) (c .before .before .before .before .before .before .before .before .before .before .before .before .before
+    .before .if1 .left) in
     put-same (a .out .now) (a .at) (placeText (a .l) (a .c)) (spotText (a .l) (a .c)) _ _ e
     (put-three (a .out .now) (a .at) lineWord (numeral (a .l)) (oneLine columnWord (a .c))
     (room (a .out .now) (placeText (a .l) (a .c)) (spotText (a .l) (a .c)) (a .at) e (p .1)) _ _
-    (c .before .before .before .before .before .before .before .before .before .before .before .put-word .ensures) _ _ (c .before .before .before .before .before .before .before .put-number .ensures) _ _ (c .before .before .put-one2 .ensures))
+    (c .before .before .before .before .before .before .before .before .before .before .before .put-word .ensures) _ _
+    (c .before .before .before .before .before .before .before .put-number .ensures) _ _ (c .before .before .put-one2 .ensures))
 
 pub put-place-spec : {M : Type 1} → statement M
 put-place-spec =

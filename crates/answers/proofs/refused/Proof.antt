@@ -36,15 +36,21 @@ room r l c o z = omega (arith, length-append (numeral r) (placeText l c), numera
 put-number-requires : tie.Need-put-number-requires
 put-number-requires c κs =
     let w = c .before .before in
-    let a = w .before .before .before in
-    (a .pre .0, second-room (replicate 768 0) 0 refusedWord (numeral (a .args .r)) (placeText (a .args .l) (a .args .c)) (room (a .args .r) (a .args .l) (a .args .c) (replicate 768 0) refl) _ _ (w .put-word .ensures))
+    let a = w .before .before .before in (
+      a .pre .0,
+      second-room (replicate 768 0) 0 refusedWord (numeral (a .args .r)) (placeText (a .args .l) (a .args .c))
+          (room (a .args .r) (a .args .l) (a .args .c) (replicate 768 0) refl) _ _ (w .put-word .ensures),
+    )
 
 put-place-requires : tie.Need-put-place-requires
 put-place-requires c κs =
     let q = c .before .before in
     let w = q .before .before .before in
-    let a = w .before .before .before in
-    ((a .pre .1, a .pre .2), third-room (replicate 768 0) 0 refusedWord (numeral (a .args .r)) (placeText (a .args .l) (a .args .c)) (room (a .args .r) (a .args .l) (a .args .c) (replicate 768 0) refl) _ _ (w .put-word .ensures) _ _ (q .put-number .ensures))
+    let a = w .before .before .before in (
+      (a .pre .1, a .pre .2),
+      third-room (replicate 768 0) 0 refusedWord (numeral (a .args .r)) (placeText (a .args .l) (a .args .c))
+          (room (a .args .r) (a .args .l) (a .args .c) (replicate 768 0) refl) _ _ (w .put-word .ensures) _ _ (q .put-number .ensures),
+    )
 
 returns : tie.Need-returns
 returns c =
@@ -52,9 +58,13 @@ returns c =
     let q = t .before .before .before in
     let w = q .before .before .before in
     let a = w .before .before .before in
-    let p = put-three (replicate 768 0) 0 refusedWord (numeral (a .args .r)) (placeText (a .args .l) (a .args .c)) (room (a .args .r) (a .args .l) (a .args .c) (replicate 768 0) refl) _ _ (w .put-word .ensures) _ _ (q .put-number .ensures) _ _ (t .put-place .ensures) in
+    let p = put-three (replicate 768 0) 0 refusedWord (numeral (a .args .r)) (placeText (a .args .l) (a .args .c))
+    (room (a .args .r) (a .args .l) (a .args .c) (replicate 768 0) refl) _ _ (w .put-word .ensures) _ _ (q .put-number .ensures) _ _
+    (t .put-place .ensures) in
     let m = room (a .args .r) (a .args .l) (a .args .c) (replicate 768 0) refl in
     record { fits = omega (arith, p .0, m); long = omega (arith, p .0); is = composed _ (refusedText (a .args .r) (a .args .l) (a .args .c)) _ _ p }
 
 pub refused-spec : {M : Type 1} → statement M
-refused-spec = tie.close (tie.spec slice-aggregate-put-word slice-aggregate-put-word-2 put-word-requires slice-aggregate-put-number put-number-requires slice-aggregate-put-place put-place-requires returns)
+refused-spec =
+    tie.close (tie.spec slice-aggregate-put-word slice-aggregate-put-word-2 put-word-requires slice-aggregate-put-number put-number-requires
+    slice-aggregate-put-place put-place-requires returns)

@@ -20,13 +20,19 @@ is-digit-requires : tie.Need-is-digit-requires
 is-digit-requires c κs = search needs
 
 returns : tie.Need-returns
-returns c = let a = c .before .before .before .before .before .args in digit-last (patternOf (drop (a .d .at) (a .w .now))) (a .b) (a .d .digits) (c .if3 .taken) (sym (c .before .before .is-digit .ensures) ∙ c .before .if2 .taken)
+returns c =
+    let a = c .before .before .before .before .before .args in
+    digit-last (patternOf (drop (a .d .at) (a .w .now))) (a .b) (a .d .digits) (c .if3 .taken) (sym (c .before .before .is-digit .ensures)
+    ∙ c .before .if2 .taken)
 
 sub-t10 : tie.Need-sub-t10
 sub-t10 c = search needs
 
 returns-2 : tie.Need-returns-2
-returns-2 c = let a = c .before .before .before .before .before .args in digit-more (patternOf (drop (a .d .at) (a .w .now))) (a .b) (a .d .digits) (omega arith) (sym (c .before .before .is-digit .ensures) ∙ c .before .if2 .taken)
+returns-2 c =
+    let a = c .before .before .before .before .before .args in
+    digit-more (patternOf (drop (a .d .at) (a .w .now))) (a .b) (a .d .digits) (omega arith) (sym (c .before .before .is-digit .ensures)
+    ∙ c .before .if2 .taken)
 
 returns-3 : tie.Need-returns-3
 returns-3 c = let a = c .before .before .before .args in after-past (a .w .now) (a .d .at) (a .d .digits) (a .b) (past (c .before)) (c .if4 .taken)
@@ -35,7 +41,9 @@ shared-slice-read-x : tie.Need-shared-slice-read-x
 shared-slice-read-x c = search needs
 
 returns-4 : tie.Need-returns-4
-returns-4 c = let a = c .before .before .before .before .before .args in after-anything (a .w .now) (a .d .at) (a .d .digits) (a .b) (past (c .before .before .before)) (c .before .before .if4 .left) (c .if5 .taken)
+returns-4 c =
+    let a = c .before .before .before .before .before .args in
+    after-anything (a .w .now) (a .d .at) (a .d .digits) (a .b) (past (c .before .before .before)) (c .before .before .if4 .left) (c .if5 .taken)
 
 is-digit-requires-2 : tie.Need-is-digit-requires-2
 is-digit-requires-2 c κs = search needs
@@ -46,7 +54,8 @@ add-t18 c = search needs
 returns-5 : tie.Need-returns-5
 returns-5 c =
     let a = c .before .before .before .before .before .before .before .before .before .args in
-    after-zero (a .w .now) (a .d .at) (a .d .digits) (a .b) (past (c .before .before .before .before .before .before .before)) (c .before .before .before .before .before .before .if4 .left) (c .before .before .before .if6 .taken)
+    after-zero (a .w .now) (a .d .at) (a .d .digits) (a .b) (past (c .before .before .before .before .before .before .before))
+    (c .before .before .before .before .before .before .if4 .left) (c .before .before .before .if6 .taken)
     (sym (c .before .before .is-digit2 .ensures) ∙ c .before .if7 .taken) (c .if8 .taken)
 
 add-t20 : tie.Need-add-t20
@@ -55,13 +64,15 @@ add-t20 c = search needs
 returns-6 : tie.Need-returns-6
 returns-6 c =
     let a = c .before .before .before .before .before .before .before .before .before .args in
-    after-figure (a .w .now) (a .d .at) (a .d .digits) (a .b) (past (c .before .before .before .before .before .before .before)) (c .before .before .before .before .before .before .if4 .left) (c .before .before .before .if6 .taken)
+    after-figure (a .w .now) (a .d .at) (a .d .digits) (a .b) (past (c .before .before .before .before .before .before .before))
+    (c .before .before .before .before .before .before .if4 .left) (c .before .before .before .if6 .taken)
     (sym (c .before .before .is-digit2 .ensures) ∙ c .before .if7 .taken) (c .if8 .left)
 
 returns-7 : tie.Need-returns-7
 returns-7 c =
     let a = c .before .before .before .before .before .before .before .before .args in
-    after-no-digit (a .w .now) (a .d .at) (a .d .digits) (a .b) (past (c .before .before .before .before .before .before)) (c .before .before .before .before .before .if4 .left) (c .before .before .if6 .taken)
+    after-no-digit (a .w .now) (a .d .at) (a .d .digits) (a .b) (past (c .before .before .before .before .before .before))
+    (c .before .before .before .before .before .if4 .left) (c .before .before .if6 .taken)
     (sym (c .before .is-digit2 .ensures) ∙ c .if7 .left)
 
 add-t22 : tie.Need-add-t22
@@ -70,12 +81,14 @@ add-t22 c = search needs
 returns-8 : tie.Need-returns-8
 returns-8 c =
     let a = c .before .before .before .before .before .before .before .args in
-    after-itself (a .w .now) (a .d .at) (a .d .digits) (a .b) (past (c .before .before .before .before .before)) (c .before .before .before .before .if4 .left) (c .before .if6 .left) (c .before .before .if5 .left) (c .if9 .taken)
+    after-itself (a .w .now) (a .d .at) (a .d .digits) (a .b) (past (c .before .before .before .before .before))
+    (c .before .before .before .before .if4 .left) (c .before .if6 .left) (c .before .before .if5 .left) (c .if9 .taken)
 
 returns-9 : tie.Need-returns-9
 returns-9 c =
     let a = c .before .before .before .before .before .before .before .args in
-    after-other (a .w .now) (a .d .at) (a .d .digits) (a .b) (past (c .before .before .before .before .before)) (c .before .before .before .before .if4 .left) (c .before .if6 .left) (c .before .before .if5 .left) (c .if9 .left)
+    after-other (a .w .now) (a .d .at) (a .d .digits) (a .b) (past (c .before .before .before .before .before))
+    (c .before .before .before .before .if4 .left) (c .before .if6 .left) (c .before .before .if5 .left) (c .if9 .left)
 
 pub after-spec : {M : Type 1} → statement M
 after-spec =

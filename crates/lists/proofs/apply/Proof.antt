@@ -26,17 +26,21 @@ enum-known-n c = search needs
 returns : tie.Need-returns
 returns c =
     let a = c .before .before .before .before .before .before .args in
-    sym (ap (stepOf (a .h) (a .room) (spotOf (a .l .now))) (sym (c .before .before .before .before .shape-of .ensures) ∙ c .before .before .n .given .1) ∙ simp (c .if1 .taken))
+    sym (ap (stepOf (a .h) (a .room) (spotOf (a .l .now))) (sym (c .before .before .before .before .shape-of .ensures)
+    ∙ c .before .before .n .given .1) ∙ simp (c .if1 .taken))
 
 returns-2 : tie.Need-returns-2
 returns-2 c =
     let a = c .before .before .before .before .before .before .before .args in
-    sym (ap (stepOf (a .h) (a .room) (spotOf (a .l .now))) (sym (c .before .before .before .before .before .shape-of .ensures) ∙ c .before .before .before .n .given .1) ∙ simp (c .before .if1 .left, lt-leb _ _ (c .if2 .taken)))
+    sym (ap (stepOf (a .h) (a .room) (spotOf (a .l .now))) (sym (c .before .before .before .before .before .shape-of .ensures)
+    ∙ c .before .before .before .n .given .1) ∙ simp (c .before .if1 .left, lt-leb _ _ (c .if2 .taken)))
 
 returns-3 : tie.Need-returns-3
 returns-3 c =
     let a = c .before .before .before .before .before .before .before .before .args in
-    sym (ap (stepOf (a .h) (a .room) (spotOf (a .l .now))) (sym (c .before .before .before .before .before .before .shape-of .ensures) ∙ c .before .before .before .before .n .given .1) ∙ simp (c .before .before .if1 .left, le-leb _ _ (c .before .if2 .left), lt-leb _ _ (c .if3 .taken)))
+    sym (ap (stepOf (a .h) (a .room) (spotOf (a .l .now))) (sym (c .before .before .before .before .before .before .shape-of .ensures)
+    ∙ c .before .before .before .before .n .given .1)
+    ∙ simp (c .before .before .if1 .left, le-leb _ _ (c .before .if2 .left), lt-leb _ _ (c .if3 .taken)))
 
 enum-known-u : tie.Need-enum-known-u
 enum-known-u c = search needs
@@ -47,12 +51,14 @@ edge-requires c κs = search needs
 returns-4 : tie.Need-returns-4
 returns-4 c =
     let a = c .before .before .before .before .before .before .before .args in
-    sym (ap (stepOf (a .h) (a .room) (spotOf (a .l .now))) (sym (c .before .before .before .before .before .shape-of .ensures) ∙ c .before .before .before .u .given .1) ∙ simp (c .before .if4 .taken) (sym (c .edge .ensures)))
+    sym (ap (stepOf (a .h) (a .room) (spotOf (a .l .now))) (sym (c .before .before .before .before .before .shape-of .ensures)
+    ∙ c .before .before .before .u .given .1) ∙ simp (c .before .if4 .taken) (sym (c .edge .ensures)))
 
 returns-5 : tie.Need-returns-5
 returns-5 c =
     let a = c .before .before .before .before .before .args in
-    sym (ap (stepOf (a .h) (a .room) (spotOf (a .l .now))) (sym (c .before .before .before .shape-of .ensures) ∙ c .before .enum-told .given .1) ∙ ap StopAt (sym (c .spot-of .ensures)))
+    sym (ap (stepOf (a .h) (a .room) (spotOf (a .l .now))) (sym (c .before .before .before .shape-of .ensures) ∙ c .before .enum-told .given .1)
+    ∙ ap StopAt (sym (c .spot-of .ensures)))
 
 returns-6 : tie.Need-returns-6
 returns-6 c =
@@ -62,12 +68,15 @@ returns-6 c =
 returns-7 : tie.Need-returns-7
 returns-7 c =
     let a = c .before .before .before .before .before .before .before .before .args in
-    sym (ap (stepOf (a .h) (a .room) (spotOf (a .l .now))) (sym (c .before .before .before .before .before .before .shape-of .ensures) ∙ c .before .before .before .before .n .given .1) ∙ simp (c .before .before .if1 .left, le-leb _ _ (c .before .if2 .left), le-leb _ _ (c .if3 .left)))
+    sym (ap (stepOf (a .h) (a .room) (spotOf (a .l .now))) (sym (c .before .before .before .before .before .before .shape-of .ensures)
+    ∙ c .before .before .before .before .n .given .1)
+    ∙ simp (c .before .before .if1 .left, le-leb _ _ (c .before .if2 .left), le-leb _ _ (c .if3 .left)))
 
 returns-8 : tie.Need-returns-8
 returns-8 c =
     let a = c .before .before .before .before .before .before .args in
-    sym (ap (stepOf (a .h) (a .room) (spotOf (a .l .now))) (sym (c .before .before .before .before .shape-of .ensures) ∙ c .before .before .u .given .1) ∙ simp (c .if4 .left))
+    sym (ap (stepOf (a .h) (a .room) (spotOf (a .l .now))) (sym (c .before .before .before .before .shape-of .ensures)
+    ∙ c .before .before .u .given .1) ∙ simp (c .if4 .left))
 
 pub apply-spec : {M : Type 1} → statement M
 apply-spec =

@@ -40,7 +40,8 @@ turned : (c : tie.At-match-came Inv-loop μ-loop) →
     let b = c .before .before .before .before .before .before in
     let a = b .before .before .before .args in
     let e = c .before .before .before .before .line-end in
-    Turned mostEntries (a .text .now) (a .room) (b .loop .at) (e .result) (b .loop .line) (b .loop .h) (b .loop .rows) (e .ensures .0) (closed (c .before .before .before)) (c .match .h) (c .match .rows)
+    Turned mostEntries (a .text .now) (a .room) (b .loop .at) (e .result) (b .loop .line) (b .loop .h) (b .loop .rows) (e .ensures .0)
+    (closed (c .before .before .before)) (c .match .h) (c .match .rows)
 turned c =
     let b = c .before .before .before .before .before .before in
     let a = b .before .before .before .args in
@@ -86,7 +87,8 @@ returns-2 c =
     let s = c .before .before .before .before .before .before .before .before .before .args .text .now in
     c .refused-at .ensures
     ∙ ap (λ (p : Spot). refusedAt p (b .line)) (c .before .spot-of .ensures ∙ ap spotOf (rest s (b .at)))
-    ∙ sym (read-halts mostEntries s _ (b .at) _ _ (b .h) (b .rows) (c .before .before .before .before .line-end .ensures .0) (c .before .before .before .before .before .loop-test .taken) (c .before .before .before .if2 .taken))
+    ∙ sym (read-halts mostEntries s _ (b .at) _ _ (b .h) (b .rows) (c .before .before .before .before .line-end .ensures .0)
+    (c .before .before .before .before .before .loop-test .taken) (c .before .before .before .if2 .taken))
     ∙ b .inv .6
     ∙ read-short mostEntries longestText s _ (b .inv .1)
 
@@ -112,8 +114,11 @@ returns-3 : tie.Need-returns-3 Inv-loop μ-loop
 returns-3 c =
     let b = c .before .before .before .before .before .before .before .before .before .loop in
     let s = c .before .before .before .before .before .before .before .before .before .before .before .before .args .text .now in
-    c .refused-at2 .ensures ∙ sym (turn mostEntries s _ (b .at) _ _ (b .h) (b .rows) (c .before .before .before .before .before .before .before .line-end .ensures .0) (closed (c .before .before .before .before .before .before)) _
-    (stepped (c .before .before .before .before) ∙ c .before .before .spot .given .1)) ∙ b .inv .6 ∙ read-short mostEntries longestText s _ (b .inv .1)
+    c .refused-at2 .ensures
+    ∙ sym (turn mostEntries s _ (b .at) _ _ (b .h) (b .rows) (c .before .before .before .before .before .before .before .line-end .ensures .0)
+    (closed (c .before .before .before .before .before .before)) _
+    (stepped (c .before .before .before .before) ∙ c .before .before .spot .given .1)) ∙ b .inv .6
+    ∙ read-short mostEntries longestText s _ (b .inv .1)
 
 enum-known-why : tie.Need-enum-known-why Inv-loop μ-loop
 enum-known-why c = search needs
@@ -125,7 +130,9 @@ returns-4 : tie.Need-returns-4 Inv-loop μ-loop
 returns-4 c =
     let b = c .before .before .before .before .before .before .before .before .before .loop in
     let s = c .before .before .before .before .before .before .before .before .before .before .before .before .args .text .now in
-    c .refused2 .ensures ∙ sym (turn mostEntries s _ (b .at) _ _ (b .h) (b .rows) (c .before .before .before .before .before .before .before .line-end .ensures .0) (closed (c .before .before .before .before .before .before)) _
+    c .refused2 .ensures ∙ sym
+    (turn mostEntries s _ (b .at) _ _ (b .h) (b .rows) (c .before .before .before .before .before .before .before .line-end .ensures .0)
+    (closed (c .before .before .before .before .before .before)) _
     (stepped (c .before .before .before .before) ∙ c .before .before .why .given .1)) ∙ b .inv .6 ∙ read-short mostEntries longestText s _ (b .inv .1)
 
 enum-known-g : tie.Need-enum-known-g Inv-loop μ-loop
@@ -137,14 +144,19 @@ enum-known-g-2 c = search needs
 set-bit-requires : tie.Need-set-bit-requires Inv-loop μ-loop
 set-bit-requires c κs =
     let b = c .before .before .before .before .before .before .before .before .before .loop in
-    ends-below mostEntries (c .before .before .before .before .before .before .before .before .before .before .before .before .args .text .now) _ (b .at) _ (b .line) (b .h) (b .rows) (c .before .before .before .before .before .before .before .line-end .ensures .0)
-    (closed (c .before .before .before .before .before .before)) (b .inv .5) (b .inv .4) _ _ _ (stepped (c .before .before .before .before) ∙ c .before .before .g2 .given .1)
+    ends-below mostEntries (c .before .before .before .before .before .before .before .before .before .before .before .before .args .text .now) _
+    (b .at) _ (b .line) (b .h) (b .rows) (c .before .before .before .before .before .before .before .line-end .ensures .0)
+    (closed (c .before .before .before .before .before .before)) (b .inv .5) (b .inv .4) _ _ _ (stepped (c .before .before .before .before)
+    ∙ c .before .before .g2 .given .1)
 
 set-bit-requires-2 : tie.Need-set-bit-requires-2 Inv-loop μ-loop
 set-bit-requires-2 c κs =
     let b = c .before .before .before .before .before .before .before .before .before .before .before .loop in
-    let w = ends-below mostEntries (c .before .before .before .before .before .before .before .before .before .before .before .before .before .before .args .text .now) _ (b .at) _ (b .line) (b .h) (b .rows) (c .before .before .before .before .before .before .before .before .before .line-end .ensures .0)
-    (closed (c .before .before .before .before .before .before .before .before)) (b .inv .5) (b .inv .4) _ _ _ (stepped (c .before .before .before .before .before .before) ∙ c .before .before .before .before .g2 .given .1) in
+    let w = ends-below mostEntries (c .before .before .before .before .before .before .before .before .before .before .before .before .before .before
+    .args .text .now) _ (b .at) _ (b .line) (b .h) (b .rows) (c .before .before .before .before .before .before .before .before .before .line-end
+    .ensures .0)
+    (closed (c .before .before .before .before .before .before .before .before)) (b .inv .5) (b .inv .4) _ _ _
+    (stepped (c .before .before .before .before .before .before) ∙ c .before .before .before .before .g2 .given .1) in
     (w .1, w .0)
 
 add-at : tie.Need-add-at Inv-loop μ-loop
@@ -159,8 +171,16 @@ loop-less c = omega (arith, c .before .before .before .before .line-end .ensures
 loop-again : tie.Need-loop-again Inv-loop μ-loop
 loop-again c =
     let t = turned c in
-    let e = c .before .before .before .before .line-end .ensures in
-    (omega arith, omega arith, omega arith, omega (arith, t .counted), t .few, t .size, t .same ∙ c .before .before .before .before .before .before .loop .inv .6)
+    let e = c .before .before .before .before .line-end .ensures in (
+      omega arith,
+      omega arith,
+      omega arith,
+      omega (arith, t .counted),
+      t .few,
+      t .size,
+      t .same
+          ∙ c .before .before .before .before .before .before .loop .inv .6,
+    )
 
 ended-requires : tie.Need-ended-requires Inv-loop μ-loop
 ended-requires c κs = search needs

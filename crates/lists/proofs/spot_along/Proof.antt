@@ -52,10 +52,13 @@ returns : tie.Need-returns Inv-loop μ-loop
 returns c =
     let a = c .before .before .before .before .before .before .before .before .before .before .before .args in
     let l = c .before .before .before .before .before .before .before .before .loop in
-    let t = subst (Taken (a .w .now) (l .d) (getD (a .s .now) (l .i) 0)) (c .before .before .before .enum-told .given .1) (c .before .before .before .before .before .after .ensures) in
-    ap (λ (f : Fault). record { fault = f; column = l .i + 1 }) (c .fault-at .ensures ∙ ap (faultAt (dueOf (a .w .now) (l .d))) (c .before .is-digit .ensures))
+    let t = subst (Taken (a .w .now) (l .d) (getD (a .s .now) (l .i) 0)) (c .before .before .before .enum-told .given .1)
+    (c .before .before .before .before .before .after .ensures) in
+    ap (λ (f : Fault). record { fault = f; column = l .i + 1 }) (c .fault-at .ensures
+    ∙ ap (faultAt (dueOf (a .w .now) (l .d))) (c .before .is-digit .ensures))
     ∙ sym (spot-stuck (l .i) (getD (a .s .now) (l .i) 0) (drop (l .i + 1) (a .s .now)) (dueOf (a .w .now) (l .d)) t)
-    ∙ ap (λ (x : List ℕ). spotFrom (l .i) x (dueOf (a .w .now) (l .d))) (sym (from (a .s .now) (l .i) (c .before .before .before .before .before .before .before .loop-test .taken)))
+    ∙ ap (λ (x : List ℕ). spotFrom (l .i) x (dueOf (a .w .now) (l .d)))
+    (sym (from (a .s .now) (l .i) (c .before .before .before .before .before .before .before .loop-test .taken)))
     ∙ l .inv .1
 
 add-i : tie.Need-add-i Inv-loop μ-loop
@@ -71,7 +74,8 @@ loop-again c =
     let t = subst (Taken (a .w .now) (l .d) (getD (a .s .now) (l .i) 0)) (c .before .e .given .1) (c .before .before .before .after .ensures) in (
       omega arith,
       sym (spot-on (l .i) (getD (a .s .now) (l .i) 0) (drop (l .i + 1) (a .s .now)) (dueOf (a .w .now) (l .d)) _ t)
-          ∙ ap (λ (x : List ℕ). spotFrom (l .i) x (dueOf (a .w .now) (l .d))) (sym (from (a .s .now) (l .i) (c .before .before .before .before .before .loop-test .taken)))
+          ∙ ap (λ (x : List ℕ). spotFrom (l .i) x (dueOf (a .w .now) (l .d)))
+          (sym (from (a .s .now) (l .i) (c .before .before .before .before .before .loop-test .taken)))
           ∙ l .inv .1,
     )
 

@@ -18,7 +18,9 @@ spot-along-requires : tie.Need-spot-along-requires
 spot-along-requires c κs = search needs
 
 returns : tie.Need-returns
-returns c = let s = c .before .before .before .before .before .before .args .s .now in c .spot-along .ensures ∙ spot-c s (sym (c .before .before .before .begins .ensures) ∙ c .before .before .if1 .taken)
+returns c =
+    let s = c .before .before .before .before .before .before .args .s .now in
+    c .spot-along .ensures ∙ spot-c s (sym (c .before .before .before .begins .ensures) ∙ c .before .before .if1 .taken)
 
 slice-aggregate-begins-2 : tie.Need-slice-aggregate-begins-2
 slice-aggregate-begins-2 c = search needs
@@ -33,7 +35,9 @@ spot-along-requires-2 : tie.Need-spot-along-requires-2
 spot-along-requires-2 c κs = search needs
 
 returns-2 : tie.Need-returns-2
-returns-2 c = let s = c .before .before .before .before .before .before .before .before .before .args .s .now in c .spot-along2 .ensures ∙ spot-p s (sym (c .before .before .before .begins2 .ensures) ∙ c .before .before .if2 .taken)
+returns-2 c =
+    let s = c .before .before .before .before .before .before .before .before .before .args .s .now in
+    c .spot-along2 .ensures ∙ spot-p s (sym (c .before .before .before .begins2 .ensures) ∙ c .before .before .if2 .taken)
 
 slice-aggregate-begins-3 : tie.Need-slice-aggregate-begins-3
 slice-aggregate-begins-3 c = search needs
@@ -48,12 +52,16 @@ spot-along-requires-3 : tie.Need-spot-along-requires-3
 spot-along-requires-3 c κs = search needs
 
 returns-3 : tie.Need-returns-3
-returns-3 c = let s = c .before .before .before .before .before .before .before .before .before .before .before .before .args .s .now in c .spot-along3 .ensures ∙ spot-e s (sym (c .before .before .before .begins3 .ensures) ∙ c .before .before .if3 .taken)
+returns-3 c =
+    let s = c .before .before .before .before .before .before .before .before .before .before .before .before .args .s .now in
+    c .spot-along3 .ensures ∙ spot-e s (sym (c .before .before .before .begins3 .ensures) ∙ c .before .before .if3 .taken)
 
 returns-4 : tie.Need-returns-4
 returns-4 c =
     let s = c .before .before .before .before .before .before .before .before .before .before .args .s .now in
-    sym (spot-none s (sym (c .before .before .before .before .before .before .before .begins .ensures) ∙ c .before .before .before .before .before .before .if1 .left) (sym (c .before .before .before .before .begins2 .ensures) ∙ c .before .before .before .if2 .left)
+    sym (spot-none s (sym (c .before .before .before .before .before .before .before .begins .ensures)
+    ∙ c .before .before .before .before .before .before .if1 .left) (sym (c .before .before .before .before .begins2 .ensures)
+    ∙ c .before .before .before .if2 .left)
     (sym (c .before .begins3 .ensures) ∙ c .if3 .left))
 
 pub spot-of-spec : {M : Type 1} → statement M

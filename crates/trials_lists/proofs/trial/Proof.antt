@@ -40,6 +40,15 @@ slice-aggregate-put-2 c = search needs
 put-requires-2 : tie.Need-put-requires-2
 put-requires-2 c κs = search needs
 
+put-number-requires-2 : tie.Need-put-number-requires-2
+put-number-requires-2 c κs = search needs
+
+slice-aggregate-put-3 : tie.Need-slice-aggregate-put-3
+slice-aggregate-put-3 c = search needs
+
+put-requires-3 : tie.Need-put-requires-3
+put-requires-3 c κs = search needs
+
 put-kept-rows-requires : tie.Need-put-kept-rows-requires
 put-kept-rows-requires c κs = search needs
 
@@ -77,6 +86,9 @@ trial-spec =
     put-number-requires
     slice-aggregate-put-2
     put-requires-2
+    put-number-requires-2
+    slice-aggregate-put-3
+    put-requires-3
     put-kept-rows-requires
     put-lines-requires
     enum-known-n
