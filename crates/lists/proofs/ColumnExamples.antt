@@ -1,4 +1,5 @@
--- Document 02, Ask 1: where a line went bad, by computing. Each text is the one line that its comment shows, with its line feed unless it says unended.
+-- Document 02, Asks 1 and 2: where a line went bad, and what is a comment, by computing. Each text is the one line that its comment shows, with its line
+-- feed unless it says unended.
 --
 --   at r c : refused with r, at line 1 and column c
 use Prim.Native.Nat.{ℕ}
@@ -74,11 +75,6 @@ p-alone : read (112 ∷ 10 ∷ []) ≡ at 22 2
 unfolding spotOf
 p-alone = refl
 
--- "c"
-c-alone : read (99 ∷ 10 ∷ []) ≡ at 22 2
-unfolding spotOf
-c-alone = refl
-
 -- "edge 1 2"
 edge-word : read (101 ∷ 100 ∷ 103 ∷ 101 ∷ 32 ∷ 49 ∷ 32 ∷ 50 ∷ 10 ∷ []) ≡ at 22 2
 unfolding spotOf
@@ -139,3 +135,65 @@ first-of-all = refl
 line-before : readNumbers (readOf (101 ∷ 32 ∷ 57 ∷ 32 ∷ 57 ∷ 10 ∷ 120 ∷ 10 ∷ []) 64 .answer) ≡ record { number = 11; place = 1; column = 0; size = 0 }
 unfolding spotOf
 line-before = refl
+
+-- ---- since Ask 2 a line that begins with c is a comment: each of these, and then "p edge 1 0", is a list
+
+abbrev list : Numbers
+list = record { number = 0; place = 0; column = 0; size = 1 }
+
+-- "c"
+c-alone : read (99 ∷ 10 ∷ 112 ∷ 32 ∷ 101 ∷ 100 ∷ 103 ∷ 101 ∷ 32 ∷ 49 ∷ 32 ∷ 48 ∷ 10 ∷ []) ≡ list
+c-alone = refl
+
+-- "c---"
+c-dashes : read (99 ∷ 45 ∷ 45 ∷ 45 ∷ 10 ∷ 112 ∷ 32 ∷ 101 ∷ 100 ∷ 103 ∷ 101 ∷ 32 ∷ 49 ∷ 32 ∷ 48 ∷ 10 ∷ []) ≡ list
+c-dashes = refl
+
+-- "comment"
+c-word : read (99 ∷ 111 ∷ 109 ∷ 109 ∷ 101 ∷ 110 ∷ 116 ∷ 10 ∷ 112 ∷ 32 ∷ 101 ∷ 100 ∷ 103 ∷ 101 ∷ 32 ∷ 49 ∷ 32 ∷ 48 ∷ 10 ∷ []) ≡ list
+c-word = refl
+
+-- "c" and a carriage return
+c-return : read (99 ∷ 13 ∷ 10 ∷ 112 ∷ 32 ∷ 101 ∷ 100 ∷ 103 ∷ 101 ∷ 32 ∷ 49 ∷ 32 ∷ 48 ∷ 10 ∷ []) ≡ list
+c-return = refl
+
+-- "c" and a NUL byte
+c-nul : read (99 ∷ 0 ∷ 10 ∷ 112 ∷ 32 ∷ 101 ∷ 100 ∷ 103 ∷ 101 ∷ 32 ∷ 49 ∷ 32 ∷ 48 ∷ 10 ∷ []) ≡ list
+c-nul = refl
+
+-- ---- unended, each is 23, one past its end
+
+-- "c"
+c-alone-unended : read (99 ∷ []) ≡ at 23 2
+unfolding spotOf
+c-alone-unended = refl
+
+-- "c---"
+c-dashes-unended : read (99 ∷ 45 ∷ 45 ∷ 45 ∷ []) ≡ at 23 5
+unfolding spotOf
+c-dashes-unended = refl
+
+-- "comment"
+c-word-unended : read (99 ∷ 111 ∷ 109 ∷ 109 ∷ 101 ∷ 110 ∷ 116 ∷ []) ≡ at 23 8
+unfolding spotOf
+c-word-unended = refl
+
+-- "c" and a carriage return
+c-return-unended : read (99 ∷ 13 ∷ []) ≡ at 23 3
+unfolding spotOf
+c-return-unended = refl
+
+-- "c" and a NUL byte
+c-nul-unended : read (99 ∷ 0 ∷ []) ≡ at 23 3
+unfolding spotOf
+c-nul-unended = refl
+
+-- ---- only the first byte counts: " c" and "pc"
+
+c-after-space : read (32 ∷ 99 ∷ 10 ∷ []) ≡ at 10 1
+unfolding spotOf
+c-after-space = refl
+
+c-after-p : read (112 ∷ 99 ∷ 10 ∷ []) ≡ at 22 2
+unfolding spotOf
+c-after-p = refl

@@ -1,7 +1,7 @@
--- The meaning of a line of a clash text (document 01, "Texts").
+-- The meaning of a line of a clash text (document 01, "Texts", with comments as document 02 has them, Ask 2).
 --
 --   shapeWith c l : the word c, which comments begin with, and anything; "p edge N M"; "e U V"; or none of these
---   shapeOf l     : the same, with "c " for c
+--   shapeOf l     : the same, with "c" for c
 --   shapeAt t k   : the shape of line k of the lines t, counted from 1; there is no line 0
 --   isP s, isE s  : s is that of a p line, of an e line
 --
@@ -17,9 +17,9 @@ use Rattle.lines.specs.declared.Pair.the-variants.{Both, Neither}
 use Rattle.lists.specs.declared.Shape.{Shape}
 use Rattle.lists.specs.declared.Shape.the-variants.{Comment, P, E, Bad}
 
--- the words that a line begins with, each with its space: "c ", "p edge ", "e "
+-- the words that a line begins with: "c", of a comment, and with their spaces "p edge " and "e "
 abbrev pub cWord : List ℕ
-cWord = 99 ∷ 32 ∷ []
+cWord = 99 ∷ []
 
 abbrev pub pWord : List ℕ
 pWord = 112 ∷ 32 ∷ 101 ∷ 100 ∷ 103 ∷ 101 ∷ 32 ∷ []

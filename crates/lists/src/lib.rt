@@ -8,7 +8,8 @@ ghost use Prim.Native.Nat.{_+_, _-_, _≤_, _<_};
 ghost use lib.ListN.{length, take, drop};
 ghost use Rattle.lines.specs.Number.{digit};
 ghost use Rattle.lines.specs.Numeral.{Put};
-ghost use Rattle.lists.specs.Shape.{shapeOf};
+ghost use Rattle.lines.specs.Words.{starts};
+ghost use Rattle.lists.specs.Shape.{cWord, shapeOf};
 ghost use Rattle.lists.specs.Expect.{faultAt, spotOf, ends? as mayEnd};
 ghost use Rattle.lists.specs.declared.Fault.the-variants.{Unended};
 ghost use Rattle.lists.specs.Pattern.{patternOf, dueOf, Taken, spotFrom};
@@ -17,7 +18,7 @@ ghost use Rattle.lists.specs.Edges.{rowEdges, edges};
 ghost use Rattle.lists.specs.Write.{edgesText, textOf};
 ghost use Rattle.lists.specs.Promise.{refusalOf, ReadPromise, WritePromise};
 
-// What a line is: "c " and anything; "p edge N M"; "e U V"; or none of these.
+// What a line is: "c" and anything; "p edge N M"; "e U V"; or none of these.
 pub enum Shape {
     Comment,
     P(usize, usize),
@@ -98,11 +99,18 @@ pub enum Step {
 // The longest text that is read.
 const LONGEST: usize = 65536;
 
+// A comment begins with the letter c, no more.
+fn is_comment(s: &[u8]) -> bool
+    ensures { λ r. ⌜ r ≡ starts cWord (now (s .entry)) ⌝ }
+{
+    lines::begins(s, b"c")
+}
+
 // The shape of a line.
 fn shape_of(s: &[u8]) -> Shape
     ensures { λ r. ⌜ r ≡ shapeOf (now (s .entry)) ⌝ }
 {
-    if lines::begins(s, b"c ") {
+    if is_comment(s) {
         return Shape::Comment;
     }
     if lines::begins(s, b"p edge ") {
@@ -263,8 +271,8 @@ fn spot_along(s: &[u8], w: &[u8]) -> Spot
 fn spot_of(s: &[u8]) -> Spot
     ensures { λ r. ⌜ r ≡ spotOf (now (s .entry)) ⌝ }
 {
-    if lines::begins(s, b"c") {
-        return spot_along(s, b"c *");
+    if is_comment(s) {
+        return spot_along(s, b"c*");
     }
     if lines::begins(s, b"p") {
         return spot_along(s, b"p edge 0 0");
