@@ -29,7 +29,7 @@ extern "C" {
 #endif
 
 /* tools/bindings writes from here on, from bindings/interface.txt */
-#define SLOTSHEET_VERSION "2.0.0"
+#define SLOTSHEET_VERSION "2.1.0"
 
 #define SLOTSHEET_ENTRIES 64          /* the most entries of a list */
 #define SLOTSHEET_BYTES 65536         /* the most bytes of a text that is read */
@@ -154,8 +154,8 @@ struct slotsheet_walk slotsheet_fewest(const uint64_t *rows, size_t rows_length,
 /* The same without bounds: also returns the number of complete graphs. For small lists. */
 struct slotsheet_walk slotsheet_plain(const uint64_t *rows, size_t rows_length, uint8_t *colours, size_t colours_length, uint64_t budget);
 
-/* Reads a clash text: 18, then the first faulty line by 10, 21, 22 or 23, then 11, 12, 13, 17, 14, 15, then at the end 11, 16. Accepted, writes
-   the first n rows; rows from n on stay. */
+/* Reads a clash text, whose lines are "p edge N M", "e U V" and comments, all those that begin with c: 18, then the first faulty line by 10, 21, 22
+   or 23, then 11, 12, 13, 17, 14, 15, then at the end 11, 16. Accepted, writes the first n rows; rows from n on stay. */
 struct slotsheet_reading slotsheet_read_list(const uint8_t *text, size_t text_length, uint64_t *rows, size_t rows_length);
 
 /* Writes a list's clash text: 1 to 4, 19. Accepted, writes the first `length` bytes; those after stay. */

@@ -13,7 +13,7 @@ import sys
 NUMBER = rb"(0|[1-9][0-9]{0,6})"
 P = re.compile(rb"p edge " + NUMBER + rb" " + NUMBER)
 E = re.compile(rb"e " + NUMBER + rb" " + NUMBER)
-COMMENT = re.compile(rb"c .*", re.S)
+COMMENT = re.compile(rb"c.*", re.S)
 
 
 def beginnings(*parts):
@@ -25,7 +25,7 @@ def beginnings(*parts):
 
 
 BEGINNINGS = [
-    beginnings(rb"c", rb" ", rb".*"),
+    beginnings(rb"c", rb".*"),
     beginnings(rb"p", rb" ", rb"e", rb"d", rb"g", rb"e", rb" ", NUMBER, rb" ", NUMBER),
     beginnings(rb"e", rb" ", NUMBER, rb" ", NUMBER),
 ]
@@ -139,7 +139,7 @@ def texts():
         b"p edge 1 10000000\n", b"p edge 10000000 0\n", b"p edge 2 1\ne 1 10000000\n", b"p edge 2 1\ne 00000001 2\n",
         b"p edge -1 0\n", b"p edge +1 0\n", b"p edge 1 0x0\n", b"p edge 1\n", b"p edge 1 \n", b"p edge \n", b"p edge 1 0 0\n",
         b"p edge 2 1\ne 1\n", b"p edge 2 1\ne 1 \n", b"p edge 2 1\ne  \n", b"p edge 2 1\ne 1 2 3\n", b"p edge 1/ 0\n", b"p edge 1 :\n",
-        # 10, 22: words
+        # 10, 22: words; and comments that are no more than their first letter
         b"c\n", b"c\np edge 0 0\n", b"c---\n", b"C x\n", b"p edges 1 0\n", b"p col 1 0\n", b"p edge\n", b"P edge 1 0\n", b"E 1 2\n",
         b"x\n", b"n 1 2\n", b"p edge 0 0\n\n", b"\np edge 0 0\n", b"e\n", b"p\n", b"cc \n", b" c \n",
         b"p edge 0 0\n\x00", b"p edge 0 0\n\x00\n", b"\x00", b"p edge 1\x00 0\n", b"\xff\xfe\n", b"\xef\xbb\xbfp edge 0 0\n", b"p edge 1 0\x80\n",

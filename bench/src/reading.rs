@@ -111,7 +111,6 @@ impl Cursor<'_> {
             self.letters(b"edge")?;
             return self.two();
         }
-        self.byte(b' ', Refusal::Space)?;
         self.at = self.text.len();
         Ok(())
     }
@@ -165,7 +164,7 @@ impl Reading {
         if cursor.takes(b"e ") {
             let (u, v) = cursor.numbers().ok_or(Refusal::Line)?;
             self.edge(u, v)
-        } else if cursor.takes(b"c ") {
+        } else if cursor.takes(b"c") {
             cursor.skip().ok_or(Refusal::Line)
         } else if cursor.takes(b"p edge ") {
             let (n, m) = cursor.numbers().ok_or(Refusal::Line)?;

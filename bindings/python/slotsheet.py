@@ -42,7 +42,7 @@ __all__ = [
 ]
 
 # tools/bindings writes from here on, from bindings/interface.txt
-VERSION = "2.0.0"
+VERSION = "2.1.0"
 
 ENTRIES = 64  # the most entries of a list
 BYTES = 65_536  # the most bytes of a text that is read

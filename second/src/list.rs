@@ -131,6 +131,7 @@ mod tests {
         assert_eq!(read_64(b"p edge 64 0\n"), Ok(vec![0; 64]));
         assert_eq!(read_64(b"p edge 64 1\ne 64 1\n").unwrap()[0], 1 << 63);
         assert_eq!(read_64(b"c   \nc c\np edge 1 0\n"), Ok(vec![0]));
+        assert_eq!(read_64(b"c\nc---\ncomment\np edge 1 0\nc\r\nc\0\nce 1 2\n"), Ok(vec![0]));
     }
 
     #[test]
@@ -146,6 +147,7 @@ mod tests {
 
     #[test]
     fn an_unended_line_that_is_whole_is_23_whatever_else() {
+        refused_at("c", 23, 1, 2);
         refused_at("c x", 23, 1, 4);
         refused_at("p edge 2 1", 23, 1, 11);
         refused_at("p edge 65 1", 23, 1, 12);
@@ -157,7 +159,6 @@ mod tests {
 
     #[test]
     fn an_unended_line_that_is_not_has_its_own() {
-        refused_at("c", 22, 1, 2);
         refused_at("p ed", 10, 1, 5);
         refused_at("p edge 2 1\ne 1 ", 21, 2, 5);
         refused_at("p edge 2 1\ne 1", 22, 2, 4);

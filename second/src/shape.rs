@@ -10,9 +10,9 @@ pub enum Shape {
     Edge { ends: [usize; 2] },
 }
 
-/// The permitted shapes: "c " and anything, "p edge N M", "e U V".
+/// The permitted shapes: a line whose first byte is c, "p edge N M", "e U V".
 pub fn shape(bytes: &[u8]) -> Option<Shape> {
-    if bytes.starts_with(b"c ") {
+    if bytes.starts_with(b"c") {
         return Some(Shape::Comment);
     }
     match words(bytes)[..] {
@@ -23,7 +23,7 @@ pub fn shape(bytes: &[u8]) -> Option<Shape> {
 }
 
 /// A permitted line of each shape, the shortest there is.
-const SHORTEST: [&[u8]; 3] = [b"c ", b"p edge 0 0", b"e 0 0"];
+const SHORTEST: [&[u8]; 3] = [b"c", b"p edge 0 0", b"e 0 0"];
 
 /// Whether some permitted line begins so. If one does, then also one that ends as one of the shortest does: a number that has begun may end at
 /// once, and what has not begun may be as short as can be.
@@ -60,7 +60,21 @@ mod tests {
 
     #[test]
     fn permitted() {
-        for line in ["c ", "c x", "c  \r\u{fc}", "p edge 0 0", "p edge 9999999 1000000", "e 0 0", "e 64 1"] {
+        for line in [
+            "c",
+            "c ",
+            "c x",
+            "c---",
+            "cc",
+            "comment",
+            "c\r",
+            "c\u{0}",
+            "c  \r\u{fc}",
+            "p edge 0 0",
+            "p edge 9999999 1000000",
+            "e 0 0",
+            "e 64 1",
+        ] {
             assert!(shape(line.as_bytes()).is_some(), "{line:?}");
             assert_eq!(bad(line.as_bytes()), (Refusal::Unended, line.len() + 1), "{line:?}");
         }
@@ -115,7 +129,6 @@ mod tests {
 
     #[test]
     fn spaces_missing_or_too_many() {
-        goes_bad(Refusal::Space, &[("c", 2), ("c---", 2), ("cc", 2), ("c\r", 2), ("comment", 2), ("c\u{0}", 2)]);
         goes_bad(
             Refusal::Space,
             &[("p", 2), ("pedge 2 1", 2), ("p\tedge 2 1", 2), ("p1", 2), ("p edge", 7), ("p edges 3 2", 7), ("p edge2 1", 7)],

@@ -98,7 +98,20 @@ fn list_text(numbers: &mut Numbers, rows: &[u64]) -> Vec<u8> {
     let mut lines = vec![format!("p edge {} {}\n", rows.len(), edges.len())];
     lines.append(&mut edges);
     for _ in 0..numbers.below(3) {
-        let comment = *pick(numbers, &["c \n", "c who helps whom\n", "c  e 1 2\n", "c c\n", "c \u{fc}\u{0}\r\n"]);
+        let some = [
+            "c \n",
+            "c\n",
+            "c---\n",
+            "comment\n",
+            "c\r\n",
+            "c\u{0}\n",
+            "ce 1 2\n",
+            "c who helps whom\n",
+            "c  e 1 2\n",
+            "c c\n",
+            "c \u{fc}\u{0}\r\n",
+        ];
+        let comment = *pick(numbers, &some);
         lines.insert(numbers.below(lines.len() as u64 + 1) as usize, comment.into());
     }
     lines.concat().into_bytes()

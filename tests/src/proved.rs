@@ -9,7 +9,7 @@ use second::{colouring, list, matrix, Refusal, Refused, BYTES};
 
 use crate::calls::{self, Lent, FILL};
 use crate::inputs::{colours, list_of, matrix as any_matrix, sample};
-use crate::stored::{lines, printed, stored};
+use crate::stored::{lines, printed, stored, text};
 use crate::{cases, BUDGET};
 
 const ROW: u64 = 0xA5A5_A5A5_A5A5_A5A5;
@@ -84,6 +84,22 @@ fn longer_lists() {
     for n in [40, 55, 63, 64] {
         for percent in [0, 3, 50, 90, 97, 100] {
             compared(&bench::lists::random(&mut drawn, n, percent), 64, 300);
+        }
+    }
+}
+
+/// The stored lists, read by the library; of those whose walk is short, what the program prints. All of them are in one of the two files.
+#[test]
+fn stored_texts() {
+    for (name, _, nodes) in lines("expected").into_iter().chain(lines("refused")) {
+        let (text, rows) = (text(&name), stored(&name));
+        let mut lent = Lent::new(rows.len(), ROW);
+        assert_eq!(calls::read_list(&text, lent.part()), [0, 0, 0, rows.len()], "{name}");
+        assert_eq!(lent.part(), rows, "{name}");
+        if nodes < 10_000 {
+            let mut out = [0; slotsheet::SHEET_BYTES];
+            let [_, _, length] = calls::answer(&text, &mut out);
+            assert_eq!(out[..length], printed(&name), "{name}");
         }
     }
 }

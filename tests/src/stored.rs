@@ -14,10 +14,20 @@ fn folder(name: &str) -> PathBuf {
     Path::new(env!("CARGO_MANIFEST_DIR")).join(name)
 }
 
+/// The file of a stored list by its name.
+fn path(name: &str) -> PathBuf {
+    let path = ["graphs", "walks", "../examples"].iter().map(|place| folder(place).join(format!("{name}.col"))).find(|path| path.exists());
+    path.unwrap_or_else(|| panic!("no list {name}"))
+}
+
 /// A stored list by its name.
 pub fn stored(name: &str) -> Vec<u64> {
-    let path = ["graphs", "walks", "../examples"].iter().map(|place| folder(place).join(format!("{name}.col"))).find(|path| path.exists());
-    load(&path.unwrap_or_else(|| panic!("no list {name}"))).expect("a list")
+    load(&path(name)).expect("a list")
+}
+
+/// The text of a stored list by its name.
+pub fn text(name: &str) -> Vec<u8> {
+    fs::read(path(name)).expect("stored")
 }
 
 /// What `slotsheet` prints for a stored list.
@@ -38,8 +48,8 @@ pub fn lines(file: &str) -> Vec<(String, u64, u64)> {
 /// k as it is known: of Mycielski's graphs, their kin and the queens' as published; of Kneser's (petersen10, johnson8-2-4) by Lovasz; of the
 /// complement of a cube (hamming6-2) by a perfect matching.
 #[rustfmt::skip]
-const KNOWN: [(&str, usize); 18] = [
-    ("myciel3", 4), ("myciel4", 5), ("myciel5", 6), ("queen5_5", 5), ("queen5_5-both-ways", 5), ("queen6_6", 7), ("queen7_7", 7),
+const KNOWN: [(&str, usize); 20] = [
+    ("myciel3", 4), ("myciel4", 5), ("myciel4-comments", 5), ("johnson8-2-4-comments", 6), ("myciel5", 6), ("queen5_5", 5), ("queen5_5-both-ways", 5), ("queen6_6", 7), ("queen7_7", 7),
     ("queen8_8", 9), ("1-FullIns_3", 4), ("2-FullIns_3", 5), ("1-Insertions_3", 4), ("2-Insertions_3", 4), ("3-Insertions_3", 4),
     ("johnson8-2-4", 6), ("hamming6-2", 32), ("edgeless64", 1), ("complete64", 64), ("petersen10", 3),
 ];

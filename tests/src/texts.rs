@@ -131,7 +131,7 @@ fn gone_bad(text: &[u8], line: u64, column: u64) -> (String, bool) {
             _ => told.push(byte as char),
         }
     }
-    (if told.starts_with("c ") { "c ..".into() } else { told }, before.len() < line.len())
+    (if told.starts_with('c') { "c..".into() } else { told }, before.len() < line.len())
 }
 
 /// Lines go bad at every place where one can, by a byte and by a stop, in every kind that can be there, and often.
@@ -148,14 +148,14 @@ fn lines_go_bad_everywhere() {
             }
         }
     }
-    let mut places = vec![("c ..", false, 23), ("p edge N N", false, 23), ("e N N", false, 23)];
+    let mut places = vec![("c..", false, 23), ("p edge N N", false, 23), ("e N N", false, 23)];
     for before in ["", "p ", "p e", "p ed", "p edg"] {
         places.extend([(before, true, 10), (before, false, 10)]);
     }
     for before in ["e ", "e N ", "p edge ", "p edge N "] {
         places.extend([(before, true, 21), (before, false, 21)]);
     }
-    for before in ["c", "p", "p edge", "p edge N", "e", "e N"] {
+    for before in ["p", "p edge", "p edge N", "e", "e N"] {
         places.extend([(before, true, 22), (before, false, 22)]);
     }
     for before in ["e N", "e N N", "p edge N", "p edge N N"] {
