@@ -33,7 +33,7 @@ use Rattle.lists.specs.Read.{mostEntries, longestText, noRowsUpTo, readFromUpTo
 use Rattle.lists.specs.Promise.{refusalOf}
 use Rattle.lists.specs.declared.Found.{Found}
 use Rattle.lists.specs.declared.Fault.{Fault}
-use Rattle.lists.specs.declared.Fault.the-variants.{Line, Headless, Second, Size, Vertex, Loop, Count, Room, Long, Digit, Space, Unended}
+use Rattle.lists.specs.declared.Fault.the-variants.{Line, Headless, Second, Size, Vertex, Loop, Count, Room, Long, Repeat, Digit, Space, Unended}
 use Rattle.lists.specs.declared.Reading.{Reading}
 use Rattle.lists.specs.declared.Reading.the-variants.{Read, Refused}
 use Rattle.lists.specs.Expect.{ofShape}
@@ -93,6 +93,7 @@ named-most t Second k h = omega (arith, h .1)
 named-most t Size k h = omega (arith, h .1)
 named-most t Vertex k h = omega (arith, h .1)
 named-most t Loop k h = omega (arith, h .1)
+named-most t Repeat k h = omega (arith, h .1)
 named-most t Room k h = omega (arith, h .1 .0 .1)
 named-most t Count k h = omega arith
 
@@ -107,17 +108,18 @@ line-told r k = go (entry r .beside)
     go aSpot = omega arith
     go anIndex = omega arith
 
-pub line-small : (s : List ℕ) (room : ℕ) (f : Fault) (k c : ℕ) (r : Refusal) → readOf s room .answer ≡ Refused f k c → told r k .line < 10000000
-line-small s room f k c r e = go (decLt longestText (length s))
+pub line-small : (plain : Bool) (s : List ℕ) (room : ℕ) (f : Fault) (k c : ℕ) (r : Refusal) → readOf plain s room .answer ≡ Refused f k c
+    → told r k .line < 10000000
+line-small plain s room f k c r e = go (decLt longestText (length s))
   where
     names : Named false (linesOf s) f k
-    names = subst (Names (linesOf s)) e (read-names mostEntries longestText s room)
+    names = subst (Names (linesOf s)) e (read-names plain mostEntries longestText s room)
 
     -- 18 names no line
     go : Dec (longestText < length s) → told r k .line < 10000000
     go (yes h) =
         let q : Refused Long 0 0 ≡ Refused f k c = sym
-        (ap (λ (b : Bool). cond b (readFromUpTo mostEntries (linesOf s) room 1 start (noRowsUpTo mostEntries)) (refusedUpTo mostEntries Long 0)
+        (ap (λ (b : Bool). cond b (readFromUpTo plain mostEntries (linesOf s) room 1 start (noRowsUpTo mostEntries)) (refusedUpTo mostEntries Long 0)
         .answer) (lt-leb (length s) longestText h)) ∙ e in
         let z : 0 ≡ k = cc in
         omega (arith, line-told r k)
@@ -135,19 +137,19 @@ column-told r c = go (entry r .beside)
     go anIndex = omega arith
 
 -- no line has more than 65,536 bytes
-pub column-small : (s : List ℕ) (room : ℕ) (f : Fault) (k c : ℕ) (r : Refusal) → readOf s room .answer ≡ Refused f k c
+pub column-small : (plain : Bool) (s : List ℕ) (room : ℕ) (f : Fault) (k c : ℕ) (r : Refusal) → readOf plain s room .answer ≡ Refused f k c
     → toldAt r 0 c .column < 10000000
-column-small s room f k c r e = go (decLt longestText (length s))
+column-small plain s room f k c r e = go (decLt longestText (length s))
   where
     go : Dec (longestText < length s) → toldAt r 0 c .column < 10000000
     go (yes h) =
         let q : Refused Long 0 0 ≡ Refused f k c =
-        sym (ap (λ (b : Bool). cond b (readFromUpTo mostEntries (linesOf s) room 1 start (noRowsUpTo mostEntries)) (refusedUpTo mostEntries Long 0)
+        sym (ap (λ (b : Bool). cond b (readFromUpTo plain mostEntries (linesOf s) room 1 start (noRowsUpTo mostEntries)) (refusedUpTo mostEntries Long 0)
         .answer)
         (lt-leb (length s) longestText h)) ∙ e in
         let z : 0 ≡ c = cc in
         omega (arith, column-told r c)
-    go (no h) = omega (arith, column-told r c, read-column mostEntries longestText s room f k c e .0)
+    go (no h) = omega (arith, column-told r c, read-column plain mostEntries longestText s room f k c e .0)
 
 -- ---- the line of a refusal
 
@@ -186,41 +188,42 @@ text-told Second k c h = refl
 text-told Size k c h = refl
 text-told Vertex k c h = refl
 text-told Loop k c h = refl
+text-told Repeat k c h = refl
 text-told Count k c h = refl
 text-told Room k c h = refl
 text-told Long k c h = refl
 
 -- ---- what is printed for a text
 
-module _ (s : List ℕ) (x : Found) (e : x ≡ readOf s 64) where
-  found-is : printed s ≡ readText (x .answer) (x .rows)
+module _ (plain : Bool) (s : List ℕ) (x : Found) (e : x ≡ readOf plain s 64) where
+  found-is : printed plain s ≡ readText (x .answer) (x .rows)
   unfolding printed
   found-is = sym (ap (λ (f : Found). readText (f .answer) (f .rows)) e)
 
-  pub printed-read : (n : ℕ) → x .answer ≡ Read n → printed s ≡ rowsText (take n (x .rows))
+  pub printed-read : (n : ℕ) → x .answer ≡ Read n → printed plain s ≡ rowsText (take n (x .rows))
   printed-read n h = found-is ∙ ap (λ (a : Reading). readText a (x .rows)) h
 
-  pub printed-refused : (f : Fault) (k c : ℕ) → x .answer ≡ Refused f k c → printed s ≡ toldText (refusalOf f) k c
+  pub printed-refused : (f : Fault) (k c : ℕ) → x .answer ≡ Refused f k c → printed plain s ≡ toldText (refusalOf f) k c
   printed-refused f k c h = found-is ∙ ap (λ (a : Reading). readText a (x .rows)) h
 
   -- by its numbers
   pub printed-numbers : (f : Fault) (k c : ℕ) → x .answer ≡ Refused f k c
-      → printed s ≡ refusedText (numberOf (refusalOf f)) (told (refusalOf f) k .line) (toldAt (refusalOf f) 0 c .column)
+      → printed plain s ≡ refusedText (numberOf (refusalOf f)) (told (refusalOf f) k .line) (toldAt (refusalOf f) 0 c .column)
   printed-numbers f k c h =
       printed-refused f k c h
-      ∙ text-told f k c (read-column mostEntries longestText s 64 f k c (ap (λ (f : Found). f .answer) (sym e) ∙ h) .1)
+      ∙ text-told f k c (read-column plain mostEntries longestText s 64 f k c (ap (λ (f : Found). f .answer) (sym e) ∙ h) .1)
 
   pub list-sound : (n : ℕ) → x .answer ≡ Read n → Sound (take n (x .rows))
-  list-sound n h = subst (λ (f : Found). Sound (take n (f .rows))) (sym e) (read-sound s 64 n (ap (λ (f : Found). f .answer) (sym e) ∙ h))
+  list-sound n h = subst (λ (f : Found). Sound (take n (f .rows))) (sym e) (read-sound plain s 64 n (ap (λ (f : Found). f .answer) (sym e) ∙ h))
 
   pub list-few : (n : ℕ) → x .answer ≡ Read n → n ≤ 64
-  list-few n h = subst (Bounded 64) (ap (λ (f : Found). f .answer) (sym e) ∙ h) (read-up-to-few mostEntries longestText s 64)
+  list-few n h = subst (Bounded 64) (ap (λ (f : Found). f .answer) (sym e) ∙ h) (read-up-to-few plain mostEntries longestText s 64)
 
 -- 18 is printed alike for each text that is too long
-pub printed-long : (s : List ℕ) → longestText < length s → printed s ≡ refusedText (numberOf refusal.Long) 0 0
+pub printed-long : (plain : Bool) (s : List ℕ) → longestText < length s → printed plain s ≡ refusedText (numberOf refusal.Long) 0 0
 unfolding printed
-printed-long s h =
-    ap (λ (b : Bool). let f = cond b (readFromUpTo mostEntries (linesOf s) 64 1 start (noRowsUpTo mostEntries)) (refusedUpTo mostEntries Long 0) in readText (f .answer) (f .rows))
+printed-long plain s h =
+    ap (λ (b : Bool). let f = cond b (readFromUpTo plain mostEntries (linesOf s) 64 1 start (noRowsUpTo mostEntries)) (refusedUpTo mostEntries Long 0) in readText (f .answer) (f .rows))
     (lt-leb (length s) longestText h)
 
 -- ---- what is printed for a list

@@ -5,17 +5,17 @@
 --   toldText r k c     : the line of the refusal r at the line k and the column c, where the table says that these are returned with it
 --   refusedText r l c  : the same by the numbers, with 0 for a column that is not named
 --   rowsText rows      : for a list: the sheet of the described walk's best division, where that walk has no more nodes than the budget; else 6
---   printed s          : for the text s: its own refusal, or what is printed for its list
+--   printed plain s    : for the text s: its own refusal, or what is printed for its list; repeats are refused where `plain` is true, else allowed
 --   IsText x t         : t holds the bytes x
 --   Writes x old a new : x is written from the first of the bytes old on, which leaves the bytes new, and a has its length; or it does not fit, and nothing is written
---   AnswerPromise s old a new : what slotsheet prints for s is written so
---   LongPromise old a new     : the same for each text that is too long
+--   AnswerPromise plain s old a new : what slotsheet prints for s is written so; without --repeats it reads plainly
+--   LongPromise old a new     : the same for each text that is too long, by both readings
 --
 -- That the sheet is that of the fewest sittings, and what a refusal means, follows from what the calls promise (proofs/Calls.antt). Assumes nothing.
 use Prim.Native.Nat.{ℕ, _≤_, _<_}
 use mathlib.Core.Path.{_≡_}
 use mathlib.Core.List.{List, [], _∷_, _++_}
-use mathlib.Core.Bool.{cond}
+use mathlib.Core.Bool.{Bool, cond}
 use lib.Dec.{leb, eqb}
 use lib.ListN.{length, take}
 use Rattle.refusals.specs.Table.{Beside, nothing, aRow, theNodes, aLine, aSpot, anIndex, Told, entry, toldAt}
@@ -87,8 +87,8 @@ readText (Read n) rows = rowsText (take n rows)
 readText (Refused f k c) rows = toldText (refusalOf f) k c
 
 -- with 64 rows to read into, so that 17 cannot arise
-unfoldable pub printed : List ℕ → List ℕ
-printed s = readText (readOf s 64 .answer) (readOf s 64 .rows)
+unfoldable pub printed : Bool → List ℕ → List ℕ
+printed plain s = readText (readOf plain s 64 .answer) (readOf plain s 64 .rows)
 
 pub record IsText (x : List ℕ) (t : Composed) : Type 0 where
   pub fits : t .length ≤ 768
@@ -103,8 +103,8 @@ pub record Writes (x old : List ℕ) (a : Printed) (new : List ℕ) : Type 0 whe
 abbrev pub Fitted : Composed → List ℕ → Printed → List ℕ → Type 0
 Fitted t old a new = (x : List ℕ) → IsText x t → Writes x old a new
 
-abbrev pub AnswerPromise : List ℕ → List ℕ → Printed → List ℕ → Type 0
-AnswerPromise s old a new = Writes (printed s) old a new
+abbrev pub AnswerPromise : Bool → List ℕ → List ℕ → Printed → List ℕ → Type 0
+AnswerPromise plain s old a new = Writes (printed plain s) old a new
 
 abbrev pub LongPromise : List ℕ → Printed → List ℕ → Type 0
-LongPromise old a new = (s : List ℕ) → longestText < length s → AnswerPromise s old a new
+LongPromise old a new = (plain : Bool) (s : List ℕ) → longestText < length s → AnswerPromise plain s old a new

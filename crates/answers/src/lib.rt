@@ -62,11 +62,11 @@ fn of_rows(rows: &[u64]) -> Composed
     refused(number(Refusal::Budget), 0, 0)
 }
 
-// What is printed for a text.
-fn of_text(text: &[u8]) -> Composed
-    ensures { λ t. ⌜ IsText (printed (now (text .entry))) t ⌝ }
+// What is printed for a text; repeats are refused where `plain` is true, else allowed.
+fn of_text(text: &[u8], plain: bool) -> Composed
+    ensures { λ t. ⌜ IsText (printed plain (now (text .entry))) t ⌝ }
 {
-    let found = lists::gather(text, 64);
+    let found = lists::gather(text, 64, plain);
     let answer = found.answer;
     let rows = found.rows;
     match answer {
@@ -91,11 +91,11 @@ fn fit(text: Composed, out: &mut [u8]) -> Printed
     Printed::Length(lines::put_word(out, 0, &bytes[..n]))
 }
 
-// Writes what slotsheet prints for this text to the lent bytes.
-pub fn answer(text: &[u8], out: &mut [u8]) -> Printed
-    ensures { λ r. ⌜ AnswerPromise (now (text .entry)) (now (out .entry)) r (now (out .exit)) ⌝ }
+// Writes what slotsheet prints for this text to the lent bytes; repeats are refused where `plain` is true, else allowed.
+pub fn answer(text: &[u8], out: &mut [u8], plain: bool) -> Printed
+    ensures { λ r. ⌜ AnswerPromise plain (now (text .entry)) (now (out .entry)) r (now (out .exit)) ⌝ }
 {
-    fit(of_text(text), out)
+    fit(of_text(text, plain), out)
 }
 
 // Writes what slotsheet prints for any text that is too long to be read, for a caller that has no room for one.

@@ -2,6 +2,7 @@
 -- answer (`crates/sittings/proofs/Unique.antt`), and an answer has one set of numbers. Assumes nothing.
 use mathlib.Core.Path.{_≡_, sym, ap, _∙_}
 use mathlib.Core.List.{List}
+use mathlib.Core.Bool.{Bool}
 use Prim.Native.Nat.{ℕ}
 use Rattle.bounds.specs.Names.{cliqueBound, mycielskian}
 use Rattle.zykov.specs.Walk.{boundedWalk, plainWalk}
@@ -34,9 +35,10 @@ clique-unique rows r q x y = numbers-unique boundNumbers (x .numbers) (y .number
 pub mycielskian-unique : (rows : List ℕ) (r q : BoundNumbers) → BoundCall mycielskian rows r → BoundCall mycielskian rows q → r ≡ q
 mycielskian-unique rows r q x y = numbers-unique boundNumbers (x .numbers) (y .numbers) (face.mycielskian-unique rows (x .answer) (y .answer) (x .promised) (y .promised))
 
-pub fault-line-unique : (list sheet : List ℕ) (room : ℕ) (r q : PartNumbers) → PartCall list sheet room r → PartCall list sheet room q → r ≡ q
-fault-line-unique list sheet room r q x y =
-    numbers-unique partNumbers (x .numbers) (y .numbers) (face.fault-part-unique list sheet room (x .answer) (y .answer) (x .promised) (y .promised))
+pub fault-line-unique : (plain : Bool) (list sheet : List ℕ) (room : ℕ) (r q : PartNumbers) → PartCall plain list sheet room r
+    → PartCall plain list sheet room q → r ≡ q
+fault-line-unique plain list sheet room r q x y =
+    numbers-unique partNumbers (x .numbers) (y .numbers) (face.fault-part-unique plain list sheet room (x .answer) (y .answer) (x .promised) (y .promised))
 
 -- ---- calls that are lent memory to write
 
@@ -51,10 +53,11 @@ pub plain-unique : (rows before : List ℕ) (budget : ℕ) (r q : WalkNumbers) (
 plain-unique rows before budget r q after other x y =
     call-unique walkNumbers (x .numbers) (y .numbers) (face.plain-unique rows before budget (x .answer) (y .answer) after other (x .promised) (y .promised))
 
-pub read-list-unique : (text old : List ℕ) (r q : ReadNumbers) (new other : List ℕ) → ReadCall text old r new → ReadCall text old q other
+pub read-list-unique : (plain : Bool) (text old : List ℕ) (r q : ReadNumbers) (new other : List ℕ) → ReadCall plain text old r new
+    → ReadCall plain text old q other
     → (r ≡ q) × (new ≡ other)
-read-list-unique text old r q new other x y =
-    call-unique readNumbers (x .numbers) (y .numbers) (face.read-list-unique text old (x .answer) (y .answer) new other (x .promised) (y .promised))
+read-list-unique plain text old r q new other x y =
+    call-unique readNumbers (x .numbers) (y .numbers) (face.read-list-unique plain text old (x .answer) (y .answer) new other (x .promised) (y .promised))
 
 pub write-list-unique : (rows old : List ℕ) (r q : WriteNumbers) (new other : List ℕ) → ListCall rows old r new → ListCall rows old q other
     → (r ≡ q) × (new ≡ other)
@@ -66,12 +69,14 @@ pub write-sheet-unique : (colours old : List ℕ) (r q : WriteNumbers) (new othe
 write-sheet-unique colours old r q new other x y =
     call-unique sheetNumbers (x .numbers) (y .numbers) (face.write-sheet-unique colours old (x .answer) (y .answer) new other (x .promised) (y .promised))
 
-pub check-sheet-unique : (list sheet old : List ℕ) (r q : CheckNumbers) (new other : List ℕ) → CheckCall list sheet old r new → CheckCall list sheet old q other
+pub check-sheet-unique : (plain : Bool) (list sheet old : List ℕ) (r q : CheckNumbers) (new other : List ℕ) → CheckCall plain list sheet old r new
+    → CheckCall plain list sheet old q other
     → (r ≡ q) × (new ≡ other)
-check-sheet-unique list sheet old r q new other x y =
-    call-unique checkNumbers (x .numbers) (y .numbers) (face.check-sheet-unique list sheet old (x .answer) (y .answer) new other (x .promised) (y .promised))
+check-sheet-unique plain list sheet old r q new other x y =
+    call-unique checkNumbers (x .numbers) (y .numbers) (face.check-sheet-unique plain list sheet old (x .answer) (y .answer) new other (x .promised) (y .promised))
 
-pub answer-unique : (text old : List ℕ) (r q : WriteNumbers) (new other : List ℕ) → AnswerCall text old r new → AnswerCall text old q other
+pub answer-unique : (plain : Bool) (text old : List ℕ) (r q : WriteNumbers) (new other : List ℕ) → AnswerCall plain text old r new
+    → AnswerCall plain text old q other
     → (r ≡ q) × (new ≡ other)
-answer-unique text old r q new other x y =
-    call-unique printedNumbers (x .numbers) (y .numbers) (face.answer-unique text old (x .answer) (y .answer) new other (x .promised) (y .promised))
+answer-unique plain text old r q new other x y =
+    call-unique printedNumbers (x .numbers) (y .numbers) (face.answer-unique plain text old (x .answer) (y .answer) new other (x .promised) (y .promised))

@@ -1,6 +1,7 @@
 -- What a call from C promises: the numbers of an answer that meets the face's promise, and the lent memory as that leaves it.
 --
---   ValidityCall, BoundCall, WalkCall, ReadCall, ListCall, SheetCall, CheckCall, PartCall, AnswerCall : one for each kind of call
+--   ValidityCall, BoundCall, WalkCall, ReadCall, ListCall, SheetCall, CheckCall, PartCall, AnswerCall : one for each kind of call; `plain` says by
+--   which reading a clash text is read
 --
 -- Assumes nothing.
 use mathlib.Core.Path.{_≡_}
@@ -50,9 +51,9 @@ pub record WalkCall (walk : ℕ → (ℕ → ℕ → Bool) → State) (rows befo
   pub promised : Promised walk rows before budget answer after
   pub numbers : r ≡ walkNumbers answer
 
-pub record ReadCall (text old : List ℕ) (r : ReadNumbers) (new : List ℕ) : Type 0 where
+pub record ReadCall (plain : Bool) (text old : List ℕ) (r : ReadNumbers) (new : List ℕ) : Type 0 where
   pub answer : Reading
-  pub promised : ReadPromise text old answer new
+  pub promised : ReadPromise plain text old answer new
   pub numbers : r ≡ readNumbers answer
 
 pub record ListCall (rows old : List ℕ) (r : WriteNumbers) (new : List ℕ) : Type 0 where
@@ -65,17 +66,17 @@ pub record SheetCall (colours old : List ℕ) (r : WriteNumbers) (new : List ℕ
   pub promised : SheetPromise colours old answer new
   pub numbers : r ≡ sheetNumbers answer
 
-pub record CheckCall (list sheet old : List ℕ) (r : CheckNumbers) (new : List ℕ) : Type 0 where
+pub record CheckCall (plain : Bool) (list sheet old : List ℕ) (r : CheckNumbers) (new : List ℕ) : Type 0 where
   pub answer : Checked
-  pub promised : CheckPromise list sheet old answer new
+  pub promised : CheckPromise plain list sheet old answer new
   pub numbers : r ≡ checkNumbers answer
 
-pub record PartCall (list sheet : List ℕ) (room : ℕ) (r : PartNumbers) : Type 0 where
+pub record PartCall (plain : Bool) (list sheet : List ℕ) (room : ℕ) (r : PartNumbers) : Type 0 where
   pub answer : Part
-  pub promised : PlacePromise list sheet room answer
+  pub promised : PlacePromise plain list sheet room answer
   pub numbers : r ≡ partNumbers answer
 
-pub record AnswerCall (text old : List ℕ) (r : WriteNumbers) (new : List ℕ) : Type 0 where
+pub record AnswerCall (plain : Bool) (text old : List ℕ) (r : WriteNumbers) (new : List ℕ) : Type 0 where
   pub answer : Printed
-  pub promised : AnswerPromise text old answer new
+  pub promised : AnswerPromise plain text old answer new
   pub numbers : r ≡ printedNumbers answer

@@ -1,5 +1,5 @@
 // The library's face for C and the languages that call C: the same calls, answered in document 01's numbers. A lent slice is passed as a pointer
-// and a length. include/slotsheet.h declares these.
+// and a length. A call whose name ends in `repeats` reads a clash text with repeats allowed. include/slotsheet.h declares these.
 use sittings::numbers::BoundNumbers;
 use sittings::numbers::CheckNumbers;
 use sittings::numbers::PartNumbers;
@@ -7,6 +7,7 @@ use sittings::numbers::ReadNumbers;
 use sittings::numbers::VerdictNumbers;
 use sittings::numbers::WalkNumbers;
 use sittings::numbers::WriteNumbers;
+ghost use mathlib.Core.Bool.{true, false};
 ghost use Rattle.bounds.specs.Names.{cliqueBound, mycielskian};
 ghost use Rattle.zykov.specs.Walk.{boundedWalk, plainWalk};
 ghost use Rattle.capi.specs.Calls.{ValidityCall, BoundCall, WalkCall, ReadCall, ListCall, SheetCall, CheckCall, PartCall, AnswerCall};
@@ -53,9 +54,17 @@ pub extern "C" fn slotsheet_plain(rows: &[u64], colours: &mut [u8], budget: u64)
 
 #[no_mangle]
 pub extern "C" fn slotsheet_read_list(text: &[u8], rows: &mut [u64]) -> ReadNumbers
-    ensures { λ r. ⌜ ReadCall (now (text .entry)) (now (rows .entry)) r (now (rows .exit)) ⌝ }
+    ensures { λ r. ⌜ ReadCall true (now (text .entry)) (now (rows .entry)) r (now (rows .exit)) ⌝ }
 {
     let a = sittings::read_list(text, rows);
+    sittings::numbers::of_reading(a)
+}
+
+#[no_mangle]
+pub extern "C" fn slotsheet_read_list_repeats(text: &[u8], rows: &mut [u64]) -> ReadNumbers
+    ensures { λ r. ⌜ ReadCall false (now (text .entry)) (now (rows .entry)) r (now (rows .exit)) ⌝ }
+{
+    let a = sittings::read_list_repeats(text, rows);
     sittings::numbers::of_reading(a)
 }
 
@@ -81,24 +90,56 @@ pub extern "C" fn slotsheet_check_sheet(
     sheet: &[u8],
     colours: &mut [u8],
 ) -> CheckNumbers
-    ensures { λ r. ⌜ CheckCall (now (list .entry)) (now (sheet .entry)) (now (colours .entry)) r (now (colours .exit)) ⌝ }
+    ensures { λ r. ⌜ CheckCall true (now (list .entry)) (now (sheet .entry)) (now (colours .entry)) r (now (colours .exit)) ⌝ }
 {
     let a = sittings::check_sheet(list, sheet, colours);
     sittings::numbers::of_check(a)
 }
 
 #[no_mangle]
+pub extern "C" fn slotsheet_check_sheet_repeats(
+    list: &[u8],
+    sheet: &[u8],
+    colours: &mut [u8],
+) -> CheckNumbers
+    ensures { λ r. ⌜ CheckCall false (now (list .entry)) (now (sheet .entry)) (now (colours .entry)) r (now (colours .exit)) ⌝ }
+{
+    let a = sittings::check_sheet_repeats(list, sheet, colours);
+    sittings::numbers::of_check(a)
+}
+
+#[no_mangle]
 pub extern "C" fn slotsheet_fault_line(list: &[u8], sheet: &[u8], room: usize) -> PartNumbers
-    ensures { λ r. ⌜ PartCall (now (list .entry)) (now (sheet .entry)) room r ⌝ }
+    ensures { λ r. ⌜ PartCall true (now (list .entry)) (now (sheet .entry)) room r ⌝ }
 {
     let a = sittings::fault_part(list, sheet, room);
     sittings::numbers::of_part(a)
 }
 
 #[no_mangle]
+pub extern "C" fn slotsheet_fault_line_repeats(
+    list: &[u8],
+    sheet: &[u8],
+    room: usize,
+) -> PartNumbers
+    ensures { λ r. ⌜ PartCall false (now (list .entry)) (now (sheet .entry)) room r ⌝ }
+{
+    let a = sittings::fault_part_repeats(list, sheet, room);
+    sittings::numbers::of_part(a)
+}
+
+#[no_mangle]
 pub extern "C" fn slotsheet_answer(text: &[u8], out: &mut [u8]) -> WriteNumbers
-    ensures { λ r. ⌜ AnswerCall (now (text .entry)) (now (out .entry)) r (now (out .exit)) ⌝ }
+    ensures { λ r. ⌜ AnswerCall true (now (text .entry)) (now (out .entry)) r (now (out .exit)) ⌝ }
 {
     let a = sittings::answer(text, out);
+    sittings::numbers::of_printed(a)
+}
+
+#[no_mangle]
+pub extern "C" fn slotsheet_answer_repeats(text: &[u8], out: &mut [u8]) -> WriteNumbers
+    ensures { λ r. ⌜ AnswerCall false (now (text .entry)) (now (out .entry)) r (now (out .exit)) ⌝ }
+{
+    let a = sittings::answer_repeats(text, out);
     sittings::numbers::of_printed(a)
 }

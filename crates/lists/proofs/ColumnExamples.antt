@@ -5,6 +5,7 @@
 use Prim.Native.Nat.{ℕ}
 use mathlib.Core.Path.{_≡_, refl}
 use mathlib.Core.List.{List, [], _∷_}
+use mathlib.Core.Bool.{true}
 use Rattle.lists.specs.Expect.{spotOf}
 use Rattle.lists.specs.Read.{readOf}
 use Rattle.lists.specs.Promise.{Numbers, readNumbers}
@@ -13,7 +14,7 @@ abbrev at : ℕ → ℕ → Numbers
 at r c = record { number = r; place = 1; column = c; size = 0 }
 
 abbrev read : List ℕ → Numbers
-read s = readNumbers (readOf s 64 .answer)
+read s = readNumbers (readOf true s 64 .answer)
 
 -- ""
 empty : read (10 ∷ []) ≡ at 10 1
@@ -121,7 +122,7 @@ unfolding spotOf
 c-unended = refl
 
 -- a later line: "c" and a space, "p edge 2 1", "e 1"
-later : readNumbers (readOf (99 ∷ 32 ∷ 10 ∷ 112 ∷ 32 ∷ 101 ∷ 100 ∷ 103 ∷ 101 ∷ 32 ∷ 50 ∷ 32 ∷ 49 ∷ 10 ∷ 101 ∷ 32 ∷ 49 ∷ 10 ∷ []) 64 .answer)
+later : readNumbers (readOf true (99 ∷ 32 ∷ 10 ∷ 112 ∷ 32 ∷ 101 ∷ 100 ∷ 103 ∷ 101 ∷ 32 ∷ 50 ∷ 32 ∷ 49 ∷ 10 ∷ 101 ∷ 32 ∷ 49 ∷ 10 ∷ []) 64 .answer)
     ≡ record { number = 22; place = 3; column = 4; size = 0 }
 unfolding spotOf
 later = refl
@@ -132,7 +133,7 @@ unfolding spotOf
 first-of-all = refl
 
 -- and a line before it first: "e 9 9", then "x"
-line-before : readNumbers (readOf (101 ∷ 32 ∷ 57 ∷ 32 ∷ 57 ∷ 10 ∷ 120 ∷ 10 ∷ []) 64 .answer) ≡ record { number = 11; place = 1; column = 0; size = 0 }
+line-before : readNumbers (readOf true (101 ∷ 32 ∷ 57 ∷ 32 ∷ 57 ∷ 10 ∷ 120 ∷ 10 ∷ []) 64 .answer) ≡ record { number = 11; place = 1; column = 0; size = 0 }
 unfolding spotOf
 line-before = refl
 

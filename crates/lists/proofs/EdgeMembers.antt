@@ -1,4 +1,4 @@
--- Which pairs are among the edges of a list, and how many there can be.
+-- Which pairs are among the edges of a list, that none is there twice, and how many there can be.
 use Prim.Native.Nat.{ℕ, zero, suc, _*_, _≤_, _<_, zero-le, suc-le-suc}
 use mathlib.Core.Path.{_≡_, sym, ap, subst}
 use mathlib.Core.List.{List, [], _∷_}
@@ -8,9 +8,9 @@ use native.Mathlib.Nat.{eq-or-lt-of-le, le-of-suc-le-suc, not-suc-le-zero}
 use native.Mathlib.Omega.{arith}
 use lib.Dec.{T, ltb, ltb→lt, lt→ltb}
 use lib.ListN.{length, length-append}
-use Rattle.sets.specs.Lists.{In, table, put, select, cross}
+use Rattle.sets.specs.Lists.{In, NoDup, table, put, select, cross}
 use Rattle.sets.proofs.TestLaws.{and-l, and-r, and-t}
-use Rattle.sets.proofs.ListLaws.{length-table, In-table, table-In, In-append-l, In-append-r, In-append, select-passes, select-In}
+use Rattle.sets.proofs.ListLaws.{length-table, In-table, table-In, In-append-l, In-append-r, In-append, noDup-append, select-passes, select-In}
 use Rattle.clashes.specs.Matrix.{matrix}
 use Rattle.lists.specs.Edges.{edgeAt, edges}
 
@@ -33,6 +33,15 @@ In-cross (suc k) n a b l h =
     (λ m. In-append-l (a, b) (cross k n) (table (λ y. (k, y)) n) (In-cross k n a b m h))
     (eq-or-lt-of-le (le-of-suc-le-suc l))
 
+select-from : {A : Type 0} (p : A → Bool) (x : A) (l : List A) → In x (select p l) → In x l
+select-from p x [] h = absurd h
+select-from p x (e ∷ l) h = go (p e) h (select-from p x l)
+  where
+    go : (b : Bool) → In x (put b e (select p l)) → (In x (select p l) → In x l) → In x (e ∷ l)
+    go true (inl q) r = inl q
+    go true (inr q) r = inr (r q)
+    go false q r = inr (r q)
+
 -- an edge's ends: the smaller one first, both entries, and they clash
 pub record Edged (rows : List ℕ) (a b : ℕ) : Type 0 where
   pub rising : a < b
@@ -46,18 +55,9 @@ edges-In rows a b m =
     let t = select-passes (edgeAt rows) (cross n n) (a, b) m in
     record {
       rising = ltb→lt a b (and-l (ltb a b) (matrix rows a b) t);
-      within = cross-In n n a b (select-from (cross n n) m) .1;
+      within = cross-In n n a b (select-from (edgeAt rows) (a, b) (cross n n) m) .1;
       clash = and-r (ltb a b) (matrix rows a b) t;
     }
-  where
-    select-from : (l : List (ℕ × ℕ)) → In (a, b) (select (edgeAt rows) l) → In (a, b) l
-    select-from [] h = absurd h
-    select-from (e ∷ l) h = go (edgeAt rows e) h (select-from l)
-      where
-        go : (x : Bool) → In (a, b) (put x e (select (edgeAt rows) l)) → (In (a, b) (select (edgeAt rows) l) → In (a, b) l) → In (a, b) (e ∷ l)
-        go true (inl p) r = inl p
-        go true (inr p) r = inr (r p)
-        go false p r = inr (r p)
 
 pub In-edges : (rows : List ℕ) (a b : ℕ) → Edged rows a b → In (a, b) (edges rows)
 unfolding edges
@@ -65,6 +65,33 @@ In-edges rows a b e =
     let n = length rows in
     select-In (edgeAt rows) (cross n n) (a, b) (In-cross n n a b (omega (arith, e .rising, e .within)) (e .within))
     (and-t (ltb a b) (matrix rows a b) (lt→ltb a b (e .rising)) (e .clash))
+
+-- ---- none twice
+
+select-noDup : {A : Type 0} (p : A → Bool) (l : List A) → NoDup l → NoDup (select p l)
+select-noDup p [] d = tt
+select-noDup p (x ∷ l) d = go (p x) (select-noDup p l (d .1))
+  where
+    go : (b : Bool) → NoDup (select p l) → NoDup (put b x (select p l))
+    go true r = ((λ m. d .0 (select-from p x l m)), r)
+    go false r = r
+
+row-noDup : (k n : ℕ) (f : ℕ → ℕ) → ((x y : ℕ) → f x ≡ f y → x ≡ y) → NoDup {A = ℕ × ℕ} (table (λ y. (k, f y)) n)
+row-noDup k zero f i = tt
+row-noDup k (suc n) f i = (
+  (λ m. let w = table-In {A = ℕ × ℕ} (λ y. (k, f (suc y))) n (k, f 0) m in let e = i 0 (suc (w .0)) (ap (λ (x : ℕ × ℕ). x .1) (w .2)) in omega arith),
+  row-noDup k n (λ y. f (suc y)) (λ x y e. let z = i (suc x) (suc y) e in omega arith),
+)
+
+cross-noDup : (k n : ℕ) → NoDup (cross k n)
+cross-noDup zero n = tt
+cross-noDup (suc k) n =
+    noDup-append (cross k n) (table (λ y. (k, y)) n) (cross-noDup k n) (row-noDup k n (λ y. y) (λ x y e. e))
+    (λ x a b. let w = table-In {A = ℕ × ℕ} (λ y. (k, y)) n x b in omega (arith, cross-In k n (x .0) (x .1) a .0, ap (λ (y : ℕ × ℕ). y .0) (w .2)))
+
+pub edges-noDup : (rows : List ℕ) → NoDup (edges rows)
+unfolding edges
+edges-noDup rows = select-noDup (edgeAt rows) (cross (length rows) (length rows)) (cross-noDup (length rows) (length rows))
 
 -- ---- at most 64 times 64
 

@@ -2,13 +2,14 @@
 use Prim.Native.Nat.{ℕ, _+_, _-_, _*_, _%_, _^_, _≤_, _<_}
 use mathlib.Core.Path.{_≡_, refl, sym, ap, subst, _∙_}
 use mathlib.Core.List.{List}
-use mathlib.Core.Bool.{Bool, true, false, cond}
+use mathlib.Core.Bool.{Bool, true, false, cond, _&&_}
 use native.Mathlib.Nat.{one-mul, mod-eq-of-lt}
 use native.Mathlib.Omega.{arith}
 use borrow.Author.Tests.{leb-true, lt-leb, le-leb}
 use lib.Dec.{T, leb, eqb}
 use lib.Pow.{pow-lt}
 use lib.ListN.{length, take, drop, length-set, drop-of-length-le}
+use Rattle.clashes.specs.Matrix.{matrix}
 use Rattle.lines.specs.Text.{Text, done, unended, ended, linesOf, lineEnd}
 use Rattle.lines.proofs.Basics.{cond-cases}
 use Rattle.lines.proofs.Lines.{line-ended, line-unended}
@@ -17,7 +18,7 @@ use Rattle.lists.specs.Expect.{spotOf}
 use Rattle.lists.specs.Read.{noRowsUpTo, refusedAtUpTo, refusedUpTo, inside, edgeOf, stepUpTo, mark, join, finishUpTo, afterUpTo, readFromUpTo, start, readUpTo, mostEntries, longestText, readOf}
 use Rattle.lists.specs.declared.Shape.{Shape}
 use Rattle.lists.specs.declared.Shape.the-variants.{Comment, P, E, Bad}
-use Rattle.lists.specs.declared.Fault.the-variants.{Long}
+use Rattle.lists.specs.declared.Fault.the-variants.{Long, Repeat}
 use Rattle.lists.specs.declared.Spot.{Spot}
 use Rattle.lists.specs.declared.Head.{Head}
 use Rattle.lists.specs.declared.Reading.{Reading}
@@ -77,12 +78,13 @@ bit-is j h = rw one-mul (mod-eq-of-lt (pow-lt h))
 
 -- ---- the loop's places
 
-module _ (most : ℕ) where
+module _ (plain : Bool) (most : ℕ) where
   pub read-halts : (s : List ℕ) (room a e k : ℕ) (h : Head) (g : List ℕ) → e ≡ lineEnd s a → a < length s → length s ≤ e
-      → readFromUpTo most (linesOf (drop a s)) room k h g ≡ refusedAtUpTo most (spotOf (drop a s)) k
-  read-halts s room a e k h g q i l = ap (λ (t : Text). readFromUpTo most t room k h g) (line-unended s a e q i l)
+      → readFromUpTo plain most (linesOf (drop a s)) room k h g ≡ refusedAtUpTo most (spotOf (drop a s)) k
+  read-halts s room a e k h g q i l = ap (λ (t : Text). readFromUpTo plain most t room k h g) (line-unended s a e q i l)
 
-  pub read-ends : (s : List ℕ) (room a k : ℕ) (h : Head) (g : List ℕ) → length s ≤ a → readFromUpTo most (linesOf (drop a s)) room k h g ≡ finishUpTo most h g k
+  pub read-ends : (s : List ℕ) (room a k : ℕ) (h : Head) (g : List ℕ) → length s ≤ a
+      → readFromUpTo plain most (linesOf (drop a s)) room k h g ≡ finishUpTo most h g k
   read-ends s room a k h g l = rw (drop-of-length-le s l)
 
   -- a line that is ended at e, and the step that it makes
@@ -92,17 +94,17 @@ module _ (most : ℕ) where
     does = stepUpTo most h room (spotOf (take (e - a) (drop a s))) (shapeOf (take (e - a) (drop a s)))
 
     pub turn : (st : Step) → does ≡ st
-        → readFromUpTo most (linesOf (drop a s)) room k h g ≡ afterUpTo most st g k (readFromUpTo most (linesOf (drop (e + 1) s)) room (k + 1))
+        → readFromUpTo plain most (linesOf (drop a s)) room k h g ≡ afterUpTo plain most st g k (readFromUpTo plain most (linesOf (drop (e + 1) s)) room (k + 1))
     turn st p =
-        ap (λ (t : Text). readFromUpTo most t room k h g) (line-ended s a e q l)
-        ∙ ap (λ (x : Step). afterUpTo most x g k (readFromUpTo most (linesOf (drop (e + 1) s)) room (k + 1))) p
+        ap (λ (t : Text). readFromUpTo plain most t room k h g) (line-ended s a e q l)
+        ∙ ap (λ (x : Step). afterUpTo plain most x g k (readFromUpTo plain most (linesOf (drop (e + 1) s)) room (k + 1))) p
 
     -- the rest of the text, with what is known next, is what it was
     pub record Turned (h′ : Head) (g′ : List ℕ) : Type 0 where
       pub few : h′ .n ≤ most
       pub counted : h′ .count ≤ h .count + 1
       pub size : length g′ ≡ most
-      pub same : readFromUpTo most (linesOf (drop (e + 1) s)) room (k + 1) h′ g′ ≡ readFromUpTo most (linesOf (drop a s)) room k h g
+      pub same : readFromUpTo plain most (linesOf (drop (e + 1) s)) room (k + 1) h′ g′ ≡ readFromUpTo plain most (linesOf (drop a s)) room k h g
 
     module _ (z : length g ≡ most) (few : h .n ≤ most) where
       keeps : (st : Step) → does ≡ st → Kept most (h .count) st
@@ -113,16 +115,21 @@ module _ (most : ℕ) where
       pub ends-below : (x : Head) (i j : ℕ) → does ≡ Edge x i j → (i < most) × (j < most)
       ends-below x i j p = let d = keeps (Edge x i j) p in (omega (arith, d .0, d .2), omega (arith, d .0, d .3))
 
+      -- an edge that the plain reading has met
+      pub repeated : (x : Head) (i j : ℕ) → does ≡ Edge x i j → (plain && matrix g i j) ≡ true
+          → readFromUpTo plain most (linesOf (drop a s)) room k h g ≡ refusedUpTo most Repeat k
+      repeated x i j p r = turn (Edge x i j) p ∙ rw r
+
       pub turned-go : (x : Head) → does ≡ Go x → (h′ : Head) (g′ : List ℕ) → g′ ≡ g → h′ ≡ x → Turned h′ g′
       turned-go x p h′ g′ eg eh =
           let d = keeps (Go x) p in
           rw (eg, eh) (record { few = d .0; counted = omega (arith, d .1); size = z; same = sym (turn (Go x) p) })
 
       pub turned-edge : (x : Head) (i j : ℕ) → does ≡ Edge x i j
-          → (h′ : Head) (g′ g₁ g₂ : List ℕ) → g₁ ≡ mark g i j → g₂ ≡ mark g₁ j i → g′ ≡ g₂ → h′ ≡ x → Turned h′ g′
-      turned-edge x i j p h′ g′ g₁ g₂ e₁ e₂ eg eh =
+          → (plain && matrix g i j) ≡ false → (h′ : Head) (g′ g₁ g₂ : List ℕ) → g₁ ≡ mark g i j → g₂ ≡ mark g₁ j i → g′ ≡ g₂ → h′ ≡ x → Turned h′ g′
+      turned-edge x i j p r h′ g′ g₁ g₂ e₁ e₂ eg eh =
           let d = keeps (Edge x i j) p in
-          rw (eg, eh, e₂, e₁) (record { few = d .0; counted = d .1; size = join-length g i j ∙ z; same = sym (turn (Edge x i j) p) })
+          rw (eg, eh, e₂, e₁) (record { few = d .0; counted = d .1; size = join-length g i j ∙ z; same = sym (turn (Edge x i j) p ∙ rw r) })
 
 -- ---- an accepted list has at most the most entries, and no more than the room
 
@@ -130,39 +137,41 @@ abbrev pub Bounded : ℕ → Reading → Type 0
 Bounded k (Read n) = n ≤ k
 Bounded k (Refused f l c) = Unit {0}
 
-module _ (most : ℕ) where
-  from-bounded : (t : Text) (room l : ℕ) (h : Head) (g : List ℕ) (k : ℕ) → ((n : ℕ) → n ≤ most → n ≤ room → n ≤ k) → h .n ≤ k → Bounded k (readFromUpTo most t room l h g .answer)
+module _ (plain : Bool) (most : ℕ) where
+  from-bounded : (t : Text) (room l : ℕ) (h : Head) (g : List ℕ) (k : ℕ) → ((n : ℕ) → n ≤ most → n ≤ room → n ≤ k) → h .n ≤ k
+      → Bounded k (readFromUpTo plain most t room l h g .answer)
   from-bounded done room l h g k f a = cond-cases (λ (x : Found). Bounded k (x .answer)) (h .seen) _ _ (λ _. cond-cases (λ (x : Found). Bounded k (x .answer)) (eqb (h .count) (h .m)) _ _ (λ _. a) (λ _. tt)) (λ _. tt)
   from-bounded (unended x) room l h g k f a = tt
   from-bounded (ended x t) room l h g k f a =
       go (stepUpTo most h room (spotOf x) (shapeOf x)) (step-kept most h room (spotOf x) (shapeOf x) k f a)
       (λ h g. from-bounded t room (l + 1) h g k f)
     where
-      go : (st : Step) → Kept k (h .count) st → ((h : Head) (g : List ℕ) → h .n ≤ k → Bounded k (readFromUpTo most t room (l + 1) h g .answer))
-          → Bounded k (afterUpTo most st g l (readFromUpTo most t room (l + 1)) .answer)
+      go : (st : Step) → Kept k (h .count) st → ((h : Head) (g : List ℕ) → h .n ≤ k → Bounded k (readFromUpTo plain most t room (l + 1) h g .answer))
+          → Bounded k (afterUpTo plain most st g l (readFromUpTo plain most t room (l + 1)) .answer)
       go (StopAt p) d r = tt
       go (Stop f) d r = tt
       go (Go y) d r = r y g (d .0)
-      go (Edge y i j) d r = r y (join g i j) (d .0)
+      go (Edge y i j) d r = cond-cases (λ (x : Found). Bounded k (x .answer)) (plain && matrix g i j) _ _ (λ _. tt) (λ _. r y (join g i j) (d .0))
 
-module _ (most longest : ℕ) where
-  pub read-short : (s : List ℕ) (room : ℕ) → length s ≤ longest → readFromUpTo most (linesOf s) room 1 start (noRowsUpTo most) ≡ readUpTo most longest s room
-  read-short s room l = sym (ap (λ (b : Bool). cond b (readFromUpTo most (linesOf s) room 1 start (noRowsUpTo most)) (refusedUpTo most Long 0)) (le-leb _ _ l))
+module _ (plain : Bool) (most longest : ℕ) where
+  pub read-short : (s : List ℕ) (room : ℕ) → length s ≤ longest
+      → readFromUpTo plain most (linesOf s) room 1 start (noRowsUpTo most) ≡ readUpTo plain most longest s room
+  read-short s room l = sym (ap (λ (b : Bool). cond b (readFromUpTo plain most (linesOf s) room 1 start (noRowsUpTo most)) (refusedUpTo most Long 0)) (le-leb _ _ l))
 
-  pub read-long : (s : List ℕ) (room : ℕ) → longest < length s → readUpTo most longest s room ≡ refusedUpTo most Long 0
+  pub read-long : (s : List ℕ) (room : ℕ) → longest < length s → readUpTo plain most longest s room ≡ refusedUpTo most Long 0
   read-long s room l = rw (lt-leb (length s) longest l)
 
-  read-bounded : (s : List ℕ) (room k : ℕ) → ((n : ℕ) → n ≤ most → n ≤ room → n ≤ k) → Bounded k (readUpTo most longest s room .answer)
-  read-bounded s room k f = cond-cases (λ (x : Found). Bounded k (x .answer)) (leb (length s) longest) _ _ (λ _. from-bounded most (linesOf s) room 1 start (noRowsUpTo most) k f (omega arith)) (λ _. tt)
+  read-bounded : (s : List ℕ) (room k : ℕ) → ((n : ℕ) → n ≤ most → n ≤ room → n ≤ k) → Bounded k (readUpTo plain most longest s room .answer)
+  read-bounded s room k f = cond-cases (λ (x : Found). Bounded k (x .answer)) (leb (length s) longest) _ _ (λ _. from-bounded plain most (linesOf s) room 1 start (noRowsUpTo most) k f (omega arith)) (λ _. tt)
 
-  pub read-up-to-few : (s : List ℕ) (room : ℕ) → Bounded most (readUpTo most longest s room .answer)
+  pub read-up-to-few : (s : List ℕ) (room : ℕ) → Bounded most (readUpTo plain most longest s room .answer)
   read-up-to-few s room = read-bounded s room most (λ n x y. x)
 
-  pub read-up-to-fits : (s : List ℕ) (room : ℕ) → Bounded room (readUpTo most longest s room .answer)
+  pub read-up-to-fits : (s : List ℕ) (room : ℕ) → Bounded room (readUpTo plain most longest s room .answer)
   read-up-to-fits s room = read-bounded s room room (λ n x y. y)
 
-pub read-few : (s : List ℕ) (room : ℕ) → Bounded mostEntries (readOf s room .answer)
-read-few = read-up-to-few mostEntries longestText
+pub read-few : (plain : Bool) (s : List ℕ) (room : ℕ) → Bounded mostEntries (readOf plain s room .answer)
+read-few plain = read-up-to-few plain mostEntries longestText
 
-pub read-fits : (s : List ℕ) (room : ℕ) → Bounded room (readOf s room .answer)
-read-fits = read-up-to-fits mostEntries longestText
+pub read-fits : (plain : Bool) (s : List ℕ) (room : ℕ) → Bounded room (readOf plain s room .answer)
+read-fits plain = read-up-to-fits plain mostEntries longestText

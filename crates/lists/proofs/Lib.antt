@@ -5,6 +5,7 @@ pub mod Permitted
 pub mod PatternLaws
 pub mod Spots
 pub mod Fold
+pub mod Alike
 pub mod Copy
 pub mod Answers
 pub mod EdgeLaws

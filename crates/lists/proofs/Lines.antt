@@ -9,11 +9,12 @@
 use Prim.Native.Nat.{ℕ, zero, suc, _+_, _≤_, _<_}
 use mathlib.Core.Path.{_≡_, refl, sym, subst}
 use mathlib.Core.List.{List}
-use mathlib.Core.Bool.{Bool, true, false}
+use mathlib.Core.Bool.{Bool, true, false, _&&_}
 use mathlib.Core.Logic.{_⊎_, inl, inr}
 use native.Mathlib.Omega.{arith}
 use lib.Dec.{T, leb, eqb}
 use lib.ListN.{length}
+use Rattle.clashes.specs.Matrix.{matrix}
 use Rattle.lines.specs.Text.{Text, done, unended, ended, linesOf, lineCount, Within}
 use Rattle.lines.proofs.Basics.{cond-cases}
 use Rattle.lists.specs.Shape.{shapeOf, shapeAt, isP, isE}
@@ -23,7 +24,7 @@ use Rattle.lists.specs.Promise.{ReadPromiseUpTo}
 use Rattle.lists.specs.declared.Shape.{Shape}
 use Rattle.lists.specs.declared.Shape.the-variants.{Comment, P, E, Bad}
 use Rattle.lists.specs.declared.Fault.{Fault}
-use Rattle.lists.specs.declared.Fault.the-variants.{Line, Headless, Second, Size, Vertex, Loop, Count, Room, Long, Digit, Space, Unended}
+use Rattle.lists.specs.declared.Fault.the-variants.{Line, Headless, Second, Size, Vertex, Loop, Count, Room, Long, Repeat, Digit, Space, Unended}
 use Rattle.lists.specs.declared.Spot.{Spot}
 use Rattle.lists.specs.declared.Head.{Head}
 use Rattle.lists.specs.declared.Found.{Found}
@@ -47,6 +48,7 @@ Named b t Second k = Within t k
 Named b t Size k = Within t k
 Named b t Vertex k = Within t k
 Named b t Loop k = Within t k
+Named b t Repeat k = Within t k
 Named b t Room k = Bare b t k × (Within t k × T (isP (shapeAt t k)))
 Named b t Count k = k ≡ lineCount t + 1
 
@@ -86,6 +88,7 @@ named-later Second b c l t i d h = within-later l t (suc i) h
 named-later Size b c l t i d h = within-later l t (suc i) h
 named-later Vertex b c l t i d h = within-later l t (suc i) h
 named-later Loop b c l t i d h = within-later l t (suc i) h
+named-later Repeat b c l t i d h = within-later l t (suc i) h
 named-later Room b c l t i d h = (bare-later b c l t (suc i) d (h .0), (within-later l t (suc i) (h .1 .0), h .1 .1))
 named-later Count b c l t i d h = omega arith
 
@@ -100,6 +103,7 @@ named-shape b t Loop k a h = absurd a
 named-shape b t Count k a h = absurd a
 named-shape b t Room k a h = absurd a
 named-shape b t Long k a h = absurd a
+named-shape b t Repeat k a h = absurd a
 named-shape b t Digit k a h = h
 named-shape b t Space k a h = h
 named-shape b t Unended k a h = h
@@ -153,8 +157,8 @@ from-later : (a : Reading) (b c : Bool) (l : List ℕ) (t : Text) (k : ℕ) → 
 from-later (Read n) b c l t k d h = tt
 from-later (Refused f j p) b c l t k d h = (suc (h .0), omega (arith, h .1), named-later f b c l t (h .0) d (h .2))
 
-module _ (most : ℕ) where
-  from-names : (t : Text) (room k : ℕ) (h : Head) (g : List ℕ) → From (h .seen) t k (readFromUpTo most t room k h g .answer)
+module _ (plain : Bool) (most : ℕ) where
+  from-names : (t : Text) (room k : ℕ) (h : Head) (g : List ℕ) → From (h .seen) t k (readFromUpTo plain most t room k h g .answer)
   from-names done room k h g =
       let F : Found → Type 0 = λ x. From (h .seen) done k (x .answer) in
       cond-cases F (h .seen) _ _ (λ _. cond-cases F (eqb (h .count) (h .m)) _ _ (λ _. tt) (λ _. (0, omega arith, omega arith)))
@@ -164,24 +168,27 @@ module _ (most : ℕ) where
   from-names (ended l t) room k h g =
       go (stepUpTo most h room (spotOf l) (shapeOf l)) (step-in most h room (spotOf l) (shapeOf l) (spot-shape l)) (from-names t room (k + 1))
     where
-      go : (st : Step) → InLine (h .seen) (shapeOf l) st → ((x : Head) (y : List ℕ) → From (x .seen) t (k + 1) (readFromUpTo most t room (k + 1) x y .answer))
-          → From (h .seen) (ended l t) k (afterUpTo most st g k (readFromUpTo most t room (k + 1)) .answer)
+      go : (st : Step) → InLine (h .seen) (shapeOf l) st
+          → ((x : Head) (y : List ℕ) → From (x .seen) t (k + 1) (readFromUpTo plain most t room (k + 1) x y .answer))
+          → From (h .seen) (ended l t) k (afterUpTo plain most st g k (readFromUpTo plain most t room (k + 1)) .answer)
       go (StopAt p) d r = (0, omega arith, named-shape (h .seen) (ended l t) (p .fault) 1 d (within-first l t))
       go (Stop f) d r = (0, omega arith, d l t refl)
-      go (Go x) d r = from-later (readFromUpTo most t room (k + 1) x g .answer) (h .seen) (x .seen) l t k d (r x g)
-      go (Edge x i j) d r = from-later (readFromUpTo most t room (k + 1) x (join g i j) .answer) (h .seen) (x .seen) l t k d (r x (join g i j))
+      go (Go x) d r = from-later (readFromUpTo plain most t room (k + 1) x g .answer) (h .seen) (x .seen) l t k d (r x g)
+      go (Edge x i j) d r =
+          cond-cases (λ (y : Found). From (h .seen) (ended l t) k (y .answer)) (plain && matrix g i j) _ _ (λ _. (0, omega arith, within-first l t))
+          (λ _. from-later (readFromUpTo plain most t room (k + 1) x (join g i j) .answer) (h .seen) (x .seen) l t k d (r x (join g i j)))
 
 whole : (t : Text) (a : Reading) → From false t 1 a → Names t a
 whole t (Read n) h = tt
 whole t (Refused f j c) h = let e : suc (h .0) ≡ j = omega (arith, h .1) in subst (Named false t f) e (h .2)
 
-module _ (most longest : ℕ) where
+module _ (plain : Bool) (most longest : ℕ) where
   -- the law
-  pub read-names : (s : List ℕ) (room : ℕ) → Names (linesOf s) (readUpTo most longest s room .answer)
+  pub read-names : (s : List ℕ) (room : ℕ) → Names (linesOf s) (readUpTo plain most longest s room .answer)
   read-names s room =
       cond-cases (λ (x : Found). Names (linesOf s) (x .answer)) (leb (length s) longest) _ _
-      (λ _. whole (linesOf s) (readFromUpTo most (linesOf s) room 1 start (noRowsUpTo most) .answer) (from-names most (linesOf s) room 1 start (noRowsUpTo most))) (λ _. refl)
+      (λ _. whole (linesOf s) (readFromUpTo plain most (linesOf s) room 1 start (noRowsUpTo most) .answer) (from-names plain most (linesOf s) room 1 start (noRowsUpTo most))) (λ _. refl)
 
   -- and so the call
-  pub call-names : (s old : List ℕ) (a : Reading) (new : List ℕ) → ReadPromiseUpTo most longest s old a new → Names (linesOf s) a
+  pub call-names : (s old : List ℕ) (a : Reading) (new : List ℕ) → ReadPromiseUpTo plain most longest s old a new → Names (linesOf s) a
   call-names s old a new p = subst (Names (linesOf s)) (sym (p .answer)) (read-names s (length old))

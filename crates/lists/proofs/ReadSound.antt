@@ -5,7 +5,7 @@
 use Prim.Native.Nat.{ℕ, _+_, _-_, _≤_, _<_}
 use mathlib.Core.Path.{_≡_, refl, sym, ap, subst, _∙_}
 use mathlib.Core.List.{List}
-use mathlib.Core.Bool.{true, false}
+use mathlib.Core.Bool.{Bool, true, false, _&&_}
 use mathlib.Core.Logic.{inl, inr, ⊎-elim}
 use native.Mathlib.Omega.{arith}
 use borrow.Author.Tests.{leb-true, eqb-false}
@@ -111,17 +111,18 @@ module _ (most : ℕ) where
   abbrev Cleaned : Found → Type 0
   Cleaned f = Cleans (f .answer) (f .rows)
 
-  from-clean : (t : Text) (room l : ℕ) (h : Head) (g : List ℕ) → Known h g → Cleaned (readFromUpTo most t room l h g)
-  from-clean done room l h g k = cond-cases Cleaned (h .seen) _ _ (λ _. cond-cases Cleaned (eqb (h .count) (h .m)) _ _ (λ _. k .clean) (λ _. tt)) (λ _. tt)
-  from-clean (unended x) room l h g k = tt
-  from-clean (ended x t) room l h g k =
-      go (stepUpTo most h room (spotOf x) (shapeOf x)) (known-step h g room (spotOf x) (shapeOf x) k) (from-clean t room (l + 1))
+  from-clean : (plain : Bool) (t : Text) (room l : ℕ) (h : Head) (g : List ℕ) → Known h g → Cleaned (readFromUpTo plain most t room l h g)
+  from-clean plain done room l h g k = cond-cases Cleaned (h .seen) _ _ (λ _. cond-cases Cleaned (eqb (h .count) (h .m)) _ _ (λ _. k .clean) (λ _. tt)) (λ _. tt)
+  from-clean plain (unended x) room l h g k = tt
+  from-clean plain (ended x t) room l h g k =
+      go (stepUpTo most h room (spotOf x) (shapeOf x)) (known-step h g room (spotOf x) (shapeOf x) k) (from-clean plain t room (l + 1))
     where
-      go : (st : Step) → After g st → ((h : Head) (g : List ℕ) → Known h g → Cleaned (readFromUpTo most t room (l + 1) h g)) → Cleaned (afterUpTo most st g l (readFromUpTo most t room (l + 1)))
+      go : (st : Step) → After g st → ((h : Head) (g : List ℕ) → Known h g → Cleaned (readFromUpTo plain most t room (l + 1) h g))
+          → Cleaned (afterUpTo plain most st g l (readFromUpTo plain most t room (l + 1)))
       go (StopAt p) d r = tt
       go (Stop f) d r = tt
       go (Go y) d r = r y g d
-      go (Edge y i j) d r = r y (join g i j) d
+      go (Edge y i j) d r = cond-cases Cleaned (plain && matrix g i j) _ _ (λ _. tt) (λ _. r y (join g i j) d)
 
   start-known : Known start (noRowsUpTo most)
   start-known = record { clean = record { few = omega arith; size = length-replicate most 0; bits = λ a b t. absurd (none-bare most a b t) }; fresh = λ _. refl }
@@ -145,12 +146,13 @@ module _ (most : ℕ) where
 
 -- ---- the law
 
-module _ (most longest : ℕ) where
-  read-clean : (s : List ℕ) (room : ℕ) → Cleaned most (readUpTo most longest s room)
-  read-clean s room = cond-cases (Cleaned most) (leb (length s) longest) _ _ (λ _. from-clean most (linesOf s) room 1 start (noRowsUpTo most) (start-known most)) (λ _. tt)
+module _ (plain : Bool) (most longest : ℕ) where
+  read-clean : (s : List ℕ) (room : ℕ) → Cleaned most (readUpTo plain most longest s room)
+  read-clean s room = cond-cases (Cleaned most) (leb (length s) longest) _ _ (λ _. from-clean most plain (linesOf s) room 1 start (noRowsUpTo most) (start-known most)) (λ _. tt)
 
-  pub read-up-to-sound : (s : List ℕ) (room n : ℕ) → readUpTo most longest s room .answer ≡ Read n → SoundUpTo most (take n (readUpTo most longest s room .rows))
-  read-up-to-sound s room n e = clean-sound most n (readUpTo most longest s room .rows) (subst (λ (a : Reading). Cleans most a (readUpTo most longest s room .rows)) e (read-clean s room))
+  pub read-up-to-sound : (s : List ℕ) (room n : ℕ) → readUpTo plain most longest s room .answer ≡ Read n
+      → SoundUpTo most (take n (readUpTo plain most longest s room .rows))
+  read-up-to-sound s room n e = clean-sound most n (readUpTo plain most longest s room .rows) (subst (λ (a : Reading). Cleans most a (readUpTo plain most longest s room .rows)) e (read-clean s room))
 
-pub read-sound : (s : List ℕ) (room n : ℕ) → readOf s room .answer ≡ Read n → Sound (take n (readOf s room .rows))
-read-sound = read-up-to-sound mostEntries longestText
+pub read-sound : (plain : Bool) (s : List ℕ) (room n : ℕ) → readOf plain s room .answer ≡ Read n → Sound (take n (readOf plain s room .rows))
+read-sound plain = read-up-to-sound plain mostEntries longestText

@@ -7,10 +7,11 @@
 use Prim.Native.Nat.{ℕ, suc, _+_, _≤_, max, zero-le}
 use mathlib.Core.Path.{_≡_, subst}
 use mathlib.Core.List.{List, [], _∷_}
-use mathlib.Core.Bool.{Bool, true, false}
+use mathlib.Core.Bool.{Bool, true, false, _&&_}
 use native.Mathlib.Omega.{arith}
 use lib.Dec.{T, leb, eqb}
 use lib.ListN.{length}
+use Rattle.clashes.specs.Matrix.{matrix}
 use Rattle.lines.specs.Text.{Text, done, unended, ended, put, feed, linesOf}
 use Rattle.lines.proofs.Basics.{cond-cases}
 use Rattle.lists.specs.Shape.{shapeOf}
@@ -65,24 +66,25 @@ module _ (most : ℕ) where
   placed-more m n (Read k) h x = tt
   placed-more m n (Refused f k c) h x = (omega (arith, x .0), x .1)
 
-  from-placed : (t : Text) (room k : ℕ) (h : Head) (g : List ℕ) → Placed (widest t + 1) (readFromUpTo most t room k h g .answer)
-  from-placed done room k h g =
+  from-placed : (plain : Bool) (t : Text) (room k : ℕ) (h : Head) (g : List ℕ) → Placed (widest t + 1) (readFromUpTo plain most t room k h g .answer)
+  from-placed plain done room k h g =
       let F : Found → Type 0 = λ x. Placed 1 (x .answer) in
       cond-cases F (h .seen) _ _ (λ _. cond-cases F (eqb (h .count) (h .m)) _ _ (λ _. tt) (λ _. (zero-le, λ x. absurd x)))
       (λ _. (zero-le, λ x. absurd x))
-  from-placed (unended l) room k h g = let w = spot-astray l .within in (w .1, λ _. w .0)
-  from-placed (ended l t) room k h g =
+  from-placed plain (unended l) room k h g = let w = spot-astray l .within in (w .1, λ _. w .0)
+  from-placed plain (ended l t) room k h g =
       go (stepUpTo most h room (spotOf l) (shapeOf l)) (step-narrow (length l + 1) h room (spotOf l) (shapeOf l) (spot-astray l .within))
-      (from-placed t room (k + 1))
+      (from-placed plain t room (k + 1))
     where
-      go : (st : Step) → Narrow (length l + 1) st → ((x : Head) (y : List ℕ) → Placed (widest t + 1) (readFromUpTo most t room (k + 1) x y .answer))
-          → Placed (max (length l) (widest t) + 1) (afterUpTo most st g k (readFromUpTo most t room (k + 1)) .answer)
+      go : (st : Step) → Narrow (length l + 1) st → ((x : Head) (y : List ℕ) → Placed (widest t + 1) (readFromUpTo plain most t room (k + 1) x y .answer))
+          → Placed (max (length l) (widest t) + 1) (afterUpTo plain most st g k (readFromUpTo plain most t room (k + 1)) .answer)
       go (StopAt p) d r = (omega (arith, d .1), λ _. d .0)
       go (Stop f) d r = (zero-le, λ x. absurd (d x))
-      go (Go x) d r = placed-more (widest t + 1) (max (length l) (widest t) + 1) (readFromUpTo most t room (k + 1) x g .answer) (omega arith) (r x g)
+      go (Go x) d r = placed-more (widest t + 1) (max (length l) (widest t) + 1) (readFromUpTo plain most t room (k + 1) x g .answer) (omega arith) (r x g)
       go (Edge x i j) d r =
-          placed-more (widest t + 1) (max (length l) (widest t) + 1) (readFromUpTo most t room (k + 1) x (join g i j) .answer) (omega arith)
-          (r x (join g i j))
+          cond-cases (λ (y : Found). Placed (max (length l) (widest t) + 1) (y .answer)) (plain && matrix g i j) _ _ (λ _. (zero-le, λ x. absurd x))
+          (λ _. placed-more (widest t + 1) (max (length l) (widest t) + 1) (readFromUpTo plain most t room (k + 1) x (join g i j) .answer) (omega arith)
+          (r x (join g i j)))
 
 widest-put : (b : ℕ) (t : Text) → widest (put b t) ≤ suc (widest t)
 widest-put b done = omega arith
@@ -99,11 +101,12 @@ widest-le (b ∷ s) = go (eqb b 10) (widest-le s)
 
 -- ---- the law
 
-pub read-column : (most longest : ℕ) (s : List ℕ) (room : ℕ) (f : Fault) (k c : ℕ) → readUpTo most longest s room .answer ≡ Refused f k c
+pub read-column : (plain : Bool) (most longest : ℕ) (s : List ℕ) (room : ℕ) (f : Fault) (k c : ℕ)
+    → readUpTo plain most longest s room .answer ≡ Refused f k c
     → (c ≤ length s + 1) × (T (ofShape f) → 1 ≤ c)
-read-column most longest s room f k c e =
+read-column plain most longest s room f k c e =
     subst (Placed (length s + 1)) e (cond-cases (λ (x : Found). Placed (length s + 1) (x .answer)) (leb (length s) longest) _ _
-    (λ _. placed-more most (widest (linesOf s) + 1) (length s + 1) (readFromUpTo most (linesOf s) room 1 start (noRowsUpTo most) .answer)
+    (λ _. placed-more most (widest (linesOf s) + 1) (length s + 1) (readFromUpTo plain most (linesOf s) room 1 start (noRowsUpTo most) .answer)
     (omega (arith, widest-le s))
-    (from-placed most (linesOf s) room 1 start (noRowsUpTo most)))
+    (from-placed most plain (linesOf s) room 1 start (noRowsUpTo most)))
     (λ _. (zero-le, λ x. absurd x)))

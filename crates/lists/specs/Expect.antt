@@ -37,7 +37,7 @@ use Rattle.sets.specs.Lists.{In, some?, greatest}
 use Rattle.lines.specs.Number.{digit}
 use Rattle.lists.specs.Shape.{cWord, pWord, eWord}
 use Rattle.lists.specs.declared.Fault.{Fault}
-use Rattle.lists.specs.declared.Fault.the-variants.{Line, Headless, Second, Size, Vertex, Loop, Count, Room, Long, Digit, Space, Unended}
+use Rattle.lists.specs.declared.Fault.the-variants.{Line, Headless, Second, Size, Vertex, Loop, Count, Room, Long, Repeat, Digit, Space, Unended}
 use Rattle.lists.specs.declared.Spot.{Spot}
 
 pub data Piece : Type 0 where
@@ -151,6 +151,7 @@ ofShape Loop = false
 ofShape Count = false
 ofShape Room = false
 ofShape Long = false
+ofShape Repeat = false
 ofShape Digit = true
 ofShape Space = true
 ofShape Unended = true

@@ -7,27 +7,32 @@
 --   mark g i j        : the rows g, with bit j set in row i
 --   join g i j        : the rows g, with the edge between i and j, in both rows
 --   finish h g k      : what is found at the end of the text, where the next line would be line k
---   readFrom t room k h g : the lines t, of which the first is line k, where h is known and g are the rows so far
---   readOf s room     : the text s, read with so many rows lent: n and the rows, or the refusal, its line, and its column (0 unless it is one of shape)
+--   after plain st g k next : line k does st, where g are the rows so far; the plain reading refuses an edge that they have
+--   readFrom plain t room k h g : the lines t, of which the first is line k, where h is known and g are the rows so far
+--   readOf plain s room : the text s, read with so many rows lent: n and the rows, or the refusal, its line, and its column (0 unless it is one of
+--                       shape)
 --   writtenOf f old   : what the lent rows hold afterwards: the first n are the list's, the others as they were
 --   mostEntries, longestText : today's limits: 64 entries, and 65,536 bytes of a text
 --
--- What depends on a limit is stated for lists of up to `most` entries and texts of up to `longest` bytes (`stepUpTo most`, .., `readUpTo most
+-- There are two readings: the plain one (`plain` is true), which refuses an edge that stands a second time, either way round; and the one that
+-- allows repeats.
+-- What depends on a limit is stated for lists of up to `most` entries and texts of up to `longest` bytes (`stepUpTo most`, .., `readUpTo plain most
 -- longest`), a row being a natural number, and is then named for today's limits (`stepOf`, .., `readOf`).
 -- Assumes nothing.
 use Prim.Native.Nat.{ℕ, _+_, _-_, _^_}
 use mathlib.Core.List.{List, _++_}
-use mathlib.Core.Bool.{Bool, true, false, cond}
+use mathlib.Core.Bool.{Bool, true, false, cond, _&&_}
 use lib.ListN.{length, getD, set, take, drop, replicate}
 use lib.Dec.{leb, eqb}
 use lib.Bits.{bitOr}
+use Rattle.clashes.specs.Matrix.{matrix}
 use Rattle.lines.specs.Text.{Text, done, unended, ended, linesOf}
 use Rattle.lists.specs.Shape.{shapeOf}
 use Rattle.lists.specs.Expect.{spotOf}
 use Rattle.lists.specs.declared.Shape.{Shape}
 use Rattle.lists.specs.declared.Shape.the-variants.{Comment, P, E, Bad}
 use Rattle.lists.specs.declared.Fault.{Fault}
-use Rattle.lists.specs.declared.Fault.the-variants.{Headless, Second, Size, Room, Vertex, Loop, Count, Long}
+use Rattle.lists.specs.declared.Fault.the-variants.{Headless, Second, Size, Room, Vertex, Loop, Count, Long, Repeat}
 use Rattle.lists.specs.declared.Spot.{Spot}
 use Rattle.lists.specs.declared.Head.{Head}
 use Rattle.lists.specs.declared.Step.{Step}
@@ -77,7 +82,8 @@ module _ (most : ℕ) where
   abbrev pub refusedUpTo : Fault → ℕ → Found
   refusedUpTo f k = refusedAtUpTo (record { fault = f; column = 0 }) k
 
-  -- within a line the order is 10 with 21, 22 and 23 in its place, 11, 12, 13, 17, 14, 15
+  -- within a line the order is 10 with 21, 22 and 23 in its place, 11, 12, 13, 17, 14, 15;
+  -- and then 20, where the rows are known
   abbrev pub stepUpTo : Head → ℕ → Spot → Shape → Step
   stepUpTo h room p Bad = StopAt p
   stepUpTo h room p Comment = Go h
@@ -92,20 +98,25 @@ module _ (most : ℕ) where
   abbrev pub finishUpTo : Head → List ℕ → ℕ → Found
   finishUpTo h g k = cond (h .seen) (cond (eqb (h .count) (h .m)) (accepted (h .n) g) (refusedUpTo Count k)) (refusedUpTo Headless k)
 
+-- ---- repeats refused or allowed
+
+module _ (plain : Bool) (most : ℕ) where
+  -- an edge that an earlier line has, either way round, stands in both its rows: 20
   abbrev pub afterUpTo : Step → List ℕ → ℕ → (Head → List ℕ → Found) → Found
-  afterUpTo (StopAt p) g k next = refusedAtUpTo p k
-  afterUpTo (Stop f) g k next = refusedUpTo f k
+  afterUpTo (StopAt p) g k next = refusedAtUpTo most p k
+  afterUpTo (Stop f) g k next = refusedUpTo most f k
   afterUpTo (Go h) g k next = next h g
-  afterUpTo (Edge h i j) g k next = next h (join g i j)
+  afterUpTo (Edge h i j) g k next = cond (plain && matrix g i j) (refusedUpTo most Repeat k) (next h (join g i j))
 
   abbrev pub readFromUpTo : Text → ℕ → ℕ → Head → List ℕ → Found
-  readFromUpTo done room k h g = finishUpTo h g k
-  readFromUpTo (unended l) room k h g = refusedAtUpTo (spotOf l) k
-  readFromUpTo (ended l t) room k h g = afterUpTo (stepUpTo h room (spotOf l) (shapeOf l)) g k (readFromUpTo t room (k + 1))
+  readFromUpTo done room k h g = finishUpTo most h g k
+  readFromUpTo (unended l) room k h g = refusedAtUpTo most (spotOf l) k
+  readFromUpTo (ended l t) room k h g = afterUpTo (stepUpTo most h room (spotOf l) (shapeOf l)) g k (readFromUpTo t room (k + 1))
 
   -- and up to `longest` bytes
   abbrev pub readUpTo : ℕ → List ℕ → ℕ → Found
-  readUpTo longest s room = cond (leb (length s) longest) (readFromUpTo (linesOf s) room 1 start noRowsUpTo) (refusedUpTo Long 0)
+  readUpTo longest s room =
+      cond (leb (length s) longest) (readFromUpTo (linesOf s) room 1 start (noRowsUpTo most)) (refusedUpTo most Long 0)
 
 -- ---- today's limits
 
@@ -130,14 +141,14 @@ stepOf h room p s = stepUpTo mostEntries h room p s
 abbrev pub finish : Head → List ℕ → ℕ → Found
 finish h g k = finishUpTo mostEntries h g k
 
-abbrev pub after : Step → List ℕ → ℕ → (Head → List ℕ → Found) → Found
-after st g k next = afterUpTo mostEntries st g k next
+abbrev pub after : Bool → Step → List ℕ → ℕ → (Head → List ℕ → Found) → Found
+after plain st g k next = afterUpTo plain mostEntries st g k next
 
-abbrev pub readFrom : Text → ℕ → ℕ → Head → List ℕ → Found
-readFrom t room k h g = readFromUpTo mostEntries t room k h g
+abbrev pub readFrom : Bool → Text → ℕ → ℕ → Head → List ℕ → Found
+readFrom plain t room k h g = readFromUpTo plain mostEntries t room k h g
 
-abbrev pub readOf : List ℕ → ℕ → Found
-readOf s room = readUpTo mostEntries longestText s room
+abbrev pub readOf : Bool → List ℕ → ℕ → Found
+readOf plain s room = readUpTo plain mostEntries longestText s room
 
 -- ---- what the lent rows hold afterwards
 

@@ -3,9 +3,10 @@
 use refusals::Refusal;
 ghost use mathlib.Core.Path.{_≡_};
 ghost use mathlib.Core.List.{_++_};
-ghost use mathlib.Core.Bool.{false, cond};
+ghost use mathlib.Core.Bool.{false, cond, _&&_};
 ghost use Prim.Native.Nat.{_+_, _-_, _≤_, _<_};
 ghost use lib.ListN.{length, take, drop};
+ghost use Rattle.clashes.specs.Matrix.{matrix};
 ghost use Rattle.lines.specs.Number.{digit};
 ghost use Rattle.lines.specs.Numeral.{Put};
 ghost use Rattle.lines.specs.Words.{starts};
@@ -37,6 +38,7 @@ pub enum Fault {
     Count,
     Room,
     Long,
+    Repeat,
     Digit,
     Space,
     Unended,
@@ -56,6 +58,7 @@ pub fn refusal_of(why: Fault) -> Refusal
         Fault::Count => Refusal::Count,
         Fault::Room => Refusal::Room,
         Fault::Long => Refusal::Long,
+        Fault::Repeat => Refusal::Repeat,
         Fault::Digit => Refusal::Digit,
         Fault::Space => Refusal::Space,
         Fault::Unended => Refusal::Unended,
@@ -360,6 +363,17 @@ fn set_bit(g: &mut [u64; 64], i: usize, j: usize)
     g[i] = g[i] | (1u64 << j);
 }
 
+// Whether an edge is refused: where repeats are, one that the rows have. Either way round, since each edge is in both its rows.
+fn repeats(plain: bool, rows: &[u64; 64], i: usize, j: usize) -> bool
+    requires { ⌜ (i < 64) × (j < 64) ⌝ }
+    ensures { λ r. ⌜ r ≡ (plain && matrix (now (rows .entry)) i j) ⌝ }
+{
+    if plain {
+        return sets::has(rows[i], j);
+    }
+    false
+}
+
 // A refusal has no rows; one of a line's shape has a column.
 fn refused_at(why: Spot, line: usize) -> Found
     ensures { λ r. ⌜ r ≡ refusedAt why line ⌝ }
@@ -400,9 +414,9 @@ fn ended(h: Head, rows: [u64; 64], line: usize) -> Found
     refused(Fault::Headless, line)
 }
 
-// Reads a text for so many lent rows, and hands its rows over by value.
-pub fn gather(text: &[u8], room: usize) -> Found
-    ensures { λ r. ⌜ r ≡ readOf (now (text .entry)) room ⌝ }
+// Reads a text for so many lent rows, and hands its rows over by value; repeats are refused where `plain` is true, else allowed.
+pub fn gather(text: &[u8], room: usize, plain: bool) -> Found
+    ensures { λ r. ⌜ r ≡ readOf plain (now (text .entry)) room ⌝ }
 {
     if LONGEST < text.len() {
         return refused(Fault::Long, 0);
@@ -432,6 +446,9 @@ pub fn gather(text: &[u8], room: usize) -> Found
                 h = g;
             }
             Step::Edge(g, i, j) => {
+                if repeats(plain, &rows, i, j) {
+                    return refused(Fault::Repeat, line);
+                }
                 h = g;
                 set_bit(&mut rows, i, j);
                 set_bit(&mut rows, j, i);
@@ -455,11 +472,11 @@ fn copy_rows(rows: &mut [u64], from: &[u64], n: usize)
     }
 }
 
-// Reads a clash text into the lent rows.
-pub fn read_list(text: &[u8], rows: &mut [u64]) -> Reading
-    ensures { λ r. ⌜ ReadPromise (now (text .entry)) (now (rows .entry)) r (now (rows .exit)) ⌝ }
+// Reads a clash text into the lent rows; repeats are refused where `plain` is true, else allowed.
+pub fn read_list(text: &[u8], rows: &mut [u64], plain: bool) -> Reading
+    ensures { λ r. ⌜ ReadPromise plain (now (text .entry)) (now (rows .entry)) r (now (rows .exit)) ⌝ }
 {
-    let found = gather(text, rows.len());
+    let found = gather(text, rows.len(), plain);
     let answer = found.answer;
     // no row is stored unless the whole text was accepted
     let mut stored: usize = 0;

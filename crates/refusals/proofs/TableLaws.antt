@@ -10,13 +10,13 @@ use native.Mathlib.Omega.{arith}
 use lib.Dec.{T, eqb, eqb→eq}
 use Rattle.refusals.specs.Table.{Beside, nothing, aRow, theNodes, aLine, aSpot, anIndex, entry, numberOf, accepted, with, told, toldAt}
 use Rattle.refusals.specs.declared.Refusal.{Refusal}
-use Rattle.refusals.specs.declared.Refusal.the-variants.{Many, Stray, Itself, OneSided, Short, Budget, Deep, Line, Headless, Second, Size, Vertex, Loop, Count, Room, Long, Full, Digit, Space, Unended, SheetLine, Member, Order, Twice, Clash, Ends, Missing, Extra, Colours}
+use Rattle.refusals.specs.declared.Refusal.the-variants.{Many, Stray, Itself, OneSided, Short, Budget, Deep, Line, Headless, Second, Size, Vertex, Loop, Count, Room, Long, Full, Repeat, Digit, Space, Unended, SheetLine, Member, Order, Twice, Clash, Ends, Missing, Extra, Colours}
 
 -- every refusal, in the table's order
 abbrev pub all : List Refusal
 all =
     Many ∷ Stray ∷ Itself ∷ OneSided ∷ Short ∷ Budget ∷ Deep ∷ Line ∷ Headless ∷ Second ∷ Size ∷ Vertex ∷ Loop ∷ Count ∷ Room ∷ Long ∷ Full
-    ∷ Digit ∷ Space ∷ Unended ∷ SheetLine ∷ Member ∷ Order ∷ Twice ∷ Clash ∷ Ends ∷ Missing ∷ Extra ∷ Colours ∷ []
+    ∷ Repeat ∷ Digit ∷ Space ∷ Unended ∷ SheetLine ∷ Member ∷ Order ∷ Twice ∷ Clash ∷ Ends ∷ Missing ∷ Extra ∷ Colours ∷ []
 
 -- who of these has the number n
 abbrev whose : ℕ → List Refusal → Option Refusal
@@ -42,6 +42,7 @@ back Count = refl
 back Room = refl
 back Long = refl
 back Full = refl
+back Repeat = refl
 back Digit = refl
 back Space = refl
 back Unended = refl

@@ -14,7 +14,7 @@
 use mathlib.Core.Bool.{Bool, true, false}
 use Prim.Native.Nat.{ℕ}
 use Rattle.refusals.specs.declared.Refusal.{Refusal}
-use Rattle.refusals.specs.declared.Refusal.the-variants.{Many, Stray, Itself, OneSided, Short, Budget, Deep, Line, Headless, Second, Size, Vertex, Loop, Count, Room, Long, Full, Digit, Space, Unended, SheetLine, Member, Order, Twice, Clash, Ends, Missing, Extra, Colours}
+use Rattle.refusals.specs.declared.Refusal.the-variants.{Many, Stray, Itself, OneSided, Short, Budget, Deep, Line, Headless, Second, Size, Vertex, Loop, Count, Room, Long, Full, Repeat, Digit, Space, Unended, SheetLine, Member, Order, Twice, Clash, Ends, Missing, Extra, Colours}
 
 pub data Beside : Type 0 where
   nothing : Beside
@@ -50,6 +50,7 @@ entry Count = row 16 aLine
 entry Room = row 17 aLine
 entry Long = row 18 nothing
 entry Full = row 19 nothing
+entry Repeat = row 20 aLine
 entry Digit = row 21 aSpot
 entry Space = row 22 aSpot
 entry Unended = row 23 aSpot

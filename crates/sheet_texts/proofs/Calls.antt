@@ -80,9 +80,9 @@ module _ (most : ℕ) where
 
 -- ---- the list that is read
 
-module _ (most longest : ℕ) (list : List ℕ) (n : ℕ) (e : readUpTo most longest list most .answer ≡ Read n) where
+module _ (plain : Bool) (most longest : ℕ) (list : List ℕ) (n : ℕ) (e : readUpTo plain most longest list most .answer ≡ Read n) where
   abbrev rows : List ℕ
-  rows = readUpTo most longest list most .rows
+  rows = readUpTo plain most longest list most .rows
 
   same : (x y : ℕ) → x < n → matrix (take n rows) x y ≡ matrix rows x y
   same x y h = ap (λ (r : ℕ). has r y) (getD-take n rows x 0 h)
@@ -97,7 +97,7 @@ module _ (most longest : ℕ) (list : List ℕ) (n : ℕ) (e : readUpTo most lon
 
   pub list-up-to-valid : Valid n (matrix rows)
   list-up-to-valid =
-      let s = read-up-to-sound most longest list most n e in
+      let s = read-up-to-sound plain most longest list most n e in
       let v = sound-valid (take n rows) s in
       record {
         no-self = λ x h t. v .no-self x (row-read x x h t) (subst T (sym (same x x h)) t);
@@ -108,33 +108,35 @@ module _ (most longest : ℕ) (list : List ℕ) (n : ℕ) (e : readUpTo most lon
       partner s x y l t (yes b) = b
       partner s x y l t (no b) = absurd (s .apart .inside .no-stray x l (y, omega arith, t))
 
-  pub checked-up-to-is : (s : List ℕ) (room : ℕ) → n ≤ room → checkUpTo most longest list s room ≡ sheetUpTo most longest n (matrix rows) s
+  pub checked-up-to-is : (s : List ℕ) (room : ℕ) → n ≤ room → checkUpTo plain most longest list s room ≡ sheetUpTo most longest n (matrix rows) s
   checked-up-to-is s room h = ap (λ (a : Reading). againstUpTo most longest a rows s room) e ∙ rw (le-leb n room h)
 
 -- ---- the two calls
 
-module _ (most longest : ℕ) (c old : List ℕ) (sevens : length c < 10000000) (short : length (sheetText c) ≤ longest) (k : ℕ) (out list lent : List ℕ) (a : Checked)
-    (new : List ℕ) (w : WritePromiseUpTo most c old (Length k) out) (x : CheckPromiseUpTo most longest list (take k out) lent a new)
-    (e : readUpTo most longest list most .answer ≡ Read (length c)) (room : length c ≤ length lent) where
-  outcome : (o : Outcome) → sheetUpTo most longest (length c) (matrix (readUpTo most longest list most .rows)) (sheetText c) ≡ o → (a ≡ o .answer) × (new ≡ writtenOf o lent)
+module _ (plain : Bool) (most longest : ℕ) (c old : List ℕ) (sevens : length c < 10000000) (short : length (sheetText c) ≤ longest) (k : ℕ) (out list lent : List ℕ) (a : Checked)
+    (new : List ℕ) (w : WritePromiseUpTo most c old (Length k) out) (x : CheckPromiseUpTo plain most longest list (take k out) lent a new)
+    (e : readUpTo plain most longest list most .answer ≡ Read (length c)) (room : length c ≤ length lent) where
+  outcome : (o : Outcome) → sheetUpTo most longest (length c) (matrix (readUpTo plain most longest list most .rows)) (sheetText c) ≡ o
+      → (a ≡ o .answer) × (new ≡ writtenOf o lent)
   outcome o q =
-      let p = ap (λ (s : List ℕ). checkUpTo most longest list s (length lent)) (wrote-is most c old k out w .text) ∙ checked-up-to-is most longest list (length c) e (sheetText c) (length lent) room ∙ q in
+      let p = ap (λ (s : List ℕ). checkUpTo plain most longest list s (length lent)) (wrote-is most c old k out w .text) ∙ checked-up-to-is plain most longest list (length c) e (sheetText c) (length lent) room ∙ q in
       (x .answer ∙ ap (λ (y : Outcome). y .answer) p, x .lent ∙ ap (λ (y : Outcome). writtenOf y lent) p)
 
   -- a clash-free division is accepted, with the same k and the same bytes
-  pub calls-up-to-free : T (clashFree (length c) (matrix (readUpTo most longest list most .rows)) c) → (a ≡ Accepted (groups 0 c)) × (new ≡ c ++ drop (length c) lent)
+  pub calls-up-to-free : T (clashFree (length c) (matrix (readUpTo plain most longest list most .rows)) c)
+      → (a ≡ Accepted (groups 0 c)) × (new ≡ c ++ drop (length c) lent)
   calls-up-to-free t =
       let r = wrote-is most c old k out w in
-      let f = read-up-to-free most longest c (r .canon) (r .few) sevens short (matrix (readUpTo most longest list most .rows)) t in
+      let f = read-up-to-free most longest c (r .canon) (r .few) sevens short (matrix (readUpTo plain most longest list most .rows)) t in
       let o = outcome _ (f .2) in
       (o .0, o .1 ∙ ap (λ (y : List ℕ). y ++ drop (length c) lent) (f .1))
 
   -- any other is refusedUpTo most as 34 at its first clash, and nothing is written
-  pub calls-up-to-clash : ¬ T (clashFree (length c) (matrix (readUpTo most longest list most .rows)) c)
-      → (l : ℕ) × (clashLine (matrix (readUpTo most longest list most .rows)) c ≡ some l) × (a ≡ Refused Clash l) × (new ≡ lent)
+  pub calls-up-to-clash : ¬ T (clashFree (length c) (matrix (readUpTo plain most longest list most .rows)) c)
+      → (l : ℕ) × (clashLine (matrix (readUpTo plain most longest list most .rows)) c ≡ some l) × (a ≡ Refused Clash l) × (new ≡ lent)
   calls-up-to-clash h =
       let r = wrote-is most c old k out w in
-      let f = read-up-to-clash most longest c (r .canon) (r .few) sevens short (matrix (readUpTo most longest list most .rows)) (list-up-to-valid most longest list (length c) e) h in
+      let f = read-up-to-clash most longest c (r .canon) (r .few) sevens short (matrix (readUpTo plain most longest list most .rows)) (list-up-to-valid plain most longest list (length c) e) h in
       let o = outcome _ (f .2) in
       (f .0, f .1, o .0, o .1)
 
@@ -144,21 +146,22 @@ pub read-free : (c : List ℕ) → Canon 0 c → length c ≤ mostEntries → (c
     → (w : List ℕ) × (take (length c) w ≡ c) × (sheetOf (length c) clash (sheetText c) ≡ accepted (length c) (groups 0 c) w)
 read-free c canon few = read-up-to-free mostEntries longestText c canon few (omega arith) (sheet-fits c canon few)
 
-pub list-valid : (list : List ℕ) (n : ℕ) → readOf list mostEntries .answer ≡ Read n → Valid n (matrix (readOf list mostEntries .rows))
-list-valid = list-up-to-valid mostEntries longestText
+pub list-valid : (plain : Bool) (list : List ℕ) (n : ℕ) → readOf plain list mostEntries .answer ≡ Read n
+    → Valid n (matrix (readOf plain list mostEntries .rows))
+list-valid plain = list-up-to-valid plain mostEntries longestText
 
-pub checked-is : (list : List ℕ) (n : ℕ) → readOf list mostEntries .answer ≡ Read n → (s : List ℕ) (room : ℕ) → n ≤ room
-    → checkOf list s room ≡ sheetOf n (matrix (readOf list mostEntries .rows)) s
-checked-is = checked-up-to-is mostEntries longestText
+pub checked-is : (plain : Bool) (list : List ℕ) (n : ℕ) → readOf plain list mostEntries .answer ≡ Read n → (s : List ℕ) (room : ℕ) → n ≤ room
+    → checkOf plain list s room ≡ sheetOf n (matrix (readOf plain list mostEntries .rows)) s
+checked-is plain = checked-up-to-is plain mostEntries longestText
 
 -- the C header's figure
 pub write-most : (c old : List ℕ) (k : ℕ) (out : List ℕ) → WritePromise c old (Length k) out → k ≤ 641
 write-most c old k out w = let x = wrote-is mostEntries c old k out w in omega (arith, x .long, sheet-most c (x .canon) (x .few))
 
-module _ (c old : List ℕ) (k : ℕ) (out list lent : List ℕ) (a : Checked) (new : List ℕ) (w : WritePromise c old (Length k) out)
-    (x : CheckPromise list (take k out) lent a new) (e : readOf list mostEntries .answer ≡ Read (length c)) (room : length c ≤ length lent) where
+module _ (plain : Bool) (c old : List ℕ) (k : ℕ) (out list lent : List ℕ) (a : Checked) (new : List ℕ) (w : WritePromise c old (Length k) out)
+    (x : CheckPromise plain list (take k out) lent a new) (e : readOf plain list mostEntries .answer ≡ Read (length c)) (room : length c ≤ length lent) where
   abbrev clash : ℕ → ℕ → Bool
-  clash = matrix (readOf list mostEntries .rows)
+  clash = matrix (readOf plain list mostEntries .rows)
 
   wrote : Wrote mostEntries c k out
   wrote = wrote-is mostEntries c old k out w
@@ -170,7 +173,7 @@ module _ (c old : List ℕ) (k : ℕ) (out list lent : List ℕ) (a : Checked) (
   short = sheet-fits c (wrote .canon) (wrote .few)
 
   pub calls-free : T (clashFree (length c) clash c) → (a ≡ Accepted (groups 0 c)) × (new ≡ c ++ drop (length c) lent)
-  calls-free = calls-up-to-free mostEntries longestText c old sevens short k out list lent a new w x e room
+  calls-free = calls-up-to-free plain mostEntries longestText c old sevens short k out list lent a new w x e room
 
   pub calls-clash : ¬ T (clashFree (length c) clash c) → (l : ℕ) × (clashLine clash c ≡ some l) × (a ≡ Refused Clash l) × (new ≡ lent)
-  calls-clash = calls-up-to-clash mostEntries longestText c old sevens short k out list lent a new w x e room
+  calls-clash = calls-up-to-clash plain mostEntries longestText c old sevens short k out list lent a new w x e room

@@ -58,55 +58,57 @@ module _ (most longest : ℕ) where
     sheet-fits : (s : List ℕ) → Fits room (sheetUpTo most longest n clash s)
     sheet-fits s = cond-cases (Fits room) (leb (length s) longest) _ _ (λ _. from-fits (linesOf s) 1 start none none (noColoursUpTo most)) (λ _. refused-fits room _ 0)
 
-  pub check-fits : (list s : List ℕ) (room : ℕ) → Fits room (checkUpTo most longest list s room)
-  check-fits list s room = go (readUpTo most longest list most .answer) (read-up-to-few most longest list most)
+module _ (plain : Bool) (most longest : ℕ) where
+  pub check-fits : (list s : List ℕ) (room : ℕ) → Fits most longest room (checkUpTo plain most longest list s room)
+  check-fits list s room = go (readUpTo plain most longest list most .answer) (read-up-to-few plain most longest list most)
     where
-      go : (a : Reading) → Bounded most a → Fits room (againstUpTo most longest a (readUpTo most longest list most .rows) s room)
+      go : (a : Reading) → Bounded most a → Fits most longest room (againstUpTo most longest a (readUpTo plain most longest list most .rows) s room)
       go (Unreadable f k c) b = record { few = omega arith; fits = omega arith; copied = λ old. refl }
       go (Read n) b =
-          cond-cases (Fits room) (leb n room) _ _ (λ e. sheet-fits room n b (leb-true n room e) (matrix (readUpTo most longest list most .rows)) s)
+          cond-cases (Fits most longest room) (leb n room) _ _ (λ e. sheet-fits most longest room n b (leb-true n room e) (matrix (readUpTo plain most longest list most .rows)) s)
           (λ _. record { few = omega arith; fits = omega arith; copied = λ old. refl })
 
   -- the promise of `check_sheet`, from what was found and copied
-  pub check-handed : (list s old new : List ℕ) (o : Outcome) → o ≡ checkUpTo most longest list s (length old) → new ≡ take (o .entries) (o .colours) ++ drop (o .entries) old
-      → CheckPromiseUpTo most longest list s old (o .answer) new
+  pub check-handed : (list s old new : List ℕ) (o : Outcome) → o ≡ checkUpTo plain most longest list s (length old)
+      → new ≡ take (o .entries) (o .colours) ++ drop (o .entries) old
+      → CheckPromiseUpTo plain most longest list s old (o .answer) new
   check-handed list s old new o e w = record {
     answer = ap (λ (x : Outcome). x .answer) e;
     lent = w ∙ ap (λ (x : Outcome). take (x .entries) (x .colours) ++ drop (x .entries) old) e ∙ check-fits list s (length old) .copied old;
   }
 
   -- the part that is shown, from the numbers of the answer
-  module _ (list s : RefT (List ℕ)) (room : ℕ) (o : Outcome) (m : Numbers) (r : RefT (List ℕ)) (e : o ≡ checkUpTo most longest (now list) (now s) room) (f : m ≡ numbersOf (o .answer)) where
-    numbers-are : numbersOf (checkUpTo most longest (now list) (now s) room .answer) ≡ m
+  module _ (list s : RefT (List ℕ)) (room : ℕ) (o : Outcome) (m : Numbers) (r : RefT (List ℕ)) (e : o ≡ checkUpTo plain most longest (now list) (now s) room) (f : m ≡ numbersOf (o .answer)) where
+    numbers-are : numbersOf (checkUpTo plain most longest (now list) (now s) room .answer) ≡ m
     numbers-are = sym (f ∙ ap (λ (x : Outcome). numbersOf (x .answer)) e)
 
-    pub preview-list : m .text ≡ theList → ShownOf list (m .line) r → PreviewPromiseUpTo most longest list s room r
+    pub preview-list : m .text ≡ theList → ShownOf list (m .line) r → PreviewPromiseUpTo plain most longest list s room r
     preview-list t x =
         subst (λ (y : Numbers). ShownOf (heldBy (y .text) list s) (y .line) r) (sym numbers-are)
         (subst (λ (b : Bool). ShownOf (cond b list s) (m .line) r) (sym (eq-eqb (m .text) theList t)) x)
 
-    pub preview-sheet : (m .text ≡ theList → ⊥) → ShownOf s (m .line) r → PreviewPromiseUpTo most longest list s room r
+    pub preview-sheet : (m .text ≡ theList → ⊥) → ShownOf s (m .line) r → PreviewPromiseUpTo plain most longest list s room r
     preview-sheet t x =
         subst (λ (y : Numbers). ShownOf (heldBy (y .text) list s) (y .line) r) (sym numbers-are)
         (subst (λ (b : Bool). ShownOf (cond b list s) (m .line) r) (sym (ne-eqb (m .text) theList t)) x)
 
   -- ---- the ways out of `check`
 
-  module _ (list s : List ℕ) (room : ℕ) (f : Found) (e : f ≡ readUpTo most longest list most) where
-    answer-is : {a : Reading} → f .answer ≡ a → readUpTo most longest list most .answer ≡ a
+  module _ (list s : List ℕ) (room : ℕ) (f : Found) (e : f ≡ readUpTo plain most longest list most) where
+    answer-is : {a : Reading} → f .answer ≡ a → readUpTo plain most longest list most .answer ≡ a
     answer-is x = sym (ap (λ (y : Found). y .answer) e) ∙ x
 
     pub read-small : (n : ℕ) → f .answer ≡ Read n → n ≤ most
-    read-small n x = subst (Bounded most) (answer-is x) (read-up-to-few most longest list most)
+    read-small n x = subst (Bounded most) (answer-is x) (read-up-to-few plain most longest list most)
 
-    pub check-unread : (w : Fault) (k c : ℕ) → f .answer ≡ Unreadable w k c → checkUpTo most longest list s room ≡ withoutUpTo most (Unread w k c)
-    check-unread w k c x = ap (λ (a : Reading). againstUpTo most longest a (readUpTo most longest list most .rows) s room) (answer-is x)
+    pub check-unread : (w : Fault) (k c : ℕ) → f .answer ≡ Unreadable w k c → checkUpTo plain most longest list s room ≡ withoutUpTo most (Unread w k c)
+    check-unread w k c x = ap (λ (a : Reading). againstUpTo most longest a (readUpTo plain most longest list most .rows) s room) (answer-is x)
 
-    pub check-few : (n : ℕ) → f .answer ≡ Read n → room < n → checkUpTo most longest list s room ≡ withoutUpTo most Short
-    check-few n x l = ap (λ (a : Reading). againstUpTo most longest a (readUpTo most longest list most .rows) s room) (answer-is x) ∙ rw (lt-leb n room l)
+    pub check-few : (n : ℕ) → f .answer ≡ Read n → room < n → checkUpTo plain most longest list s room ≡ withoutUpTo most Short
+    check-few n x l = ap (λ (a : Reading). againstUpTo most longest a (readUpTo plain most longest list most .rows) s room) (answer-is x) ∙ rw (lt-leb n room l)
 
-    pub check-read : (n : ℕ) → f .answer ≡ Read n → n ≤ room → checkUpTo most longest list s room ≡ sheetUpTo most longest n (matrix (f .rows)) s
+    pub check-read : (n : ℕ) → f .answer ≡ Read n → n ≤ room → checkUpTo plain most longest list s room ≡ sheetUpTo most longest n (matrix (f .rows)) s
     check-read n x l =
-        ap (λ (a : Reading). againstUpTo most longest a (readUpTo most longest list most .rows) s room) (answer-is x)
-        ∙ ap (λ (b : Bool). cond b (sheetUpTo most longest n (matrix (readUpTo most longest list most .rows)) s) (withoutUpTo most Short)) (le-leb n room l)
+        ap (λ (a : Reading). againstUpTo most longest a (readUpTo plain most longest list most .rows) s room) (answer-is x)
+        ∙ ap (λ (b : Bool). cond b (sheetUpTo most longest n (matrix (readUpTo plain most longest list most .rows)) s) (withoutUpTo most Short)) (le-leb n room l)
         ∙ sym (ap (λ (y : Found). sheetUpTo most longest n (matrix (y .rows)) s) e)

@@ -2,6 +2,7 @@
 use Prim.Native.Nat.{ℕ}
 use mathlib.Core.Path.{_≡_, refl}
 use mathlib.Core.List.{List, [], _∷_, _++_}
+use mathlib.Core.Bool.{true}
 use lib.ListN.{take}
 use Rattle.sheets.specs.Check.{checkOf}
 use Rattle.sheets.specs.Promise.{numbersOf}
@@ -32,14 +33,14 @@ front =
 -- the number, the line, k, and the text at fault
 abbrev Gives : List ℕ → ℕ → ℕ → ℕ → ℕ → Type 0
 Gives s number line groups text =
-    numbersOf (checkOf five s 5 .answer) ≡ record { number = number; line = line; column = 0; groups = groups; text = text }
+    numbersOf (checkOf true five s 5 .answer) ≡ record { number = number; line = line; column = 0; groups = groups; text = text }
 
 -- "size 1", "5"
 accepted-is : Gives (front ++ 115 ∷ 105 ∷ 122 ∷ 101 ∷ 32 ∷ 49 ∷ 10 ∷ 53 ∷ 10 ∷ []) 0 0 3 0
 unfolding five front
 accepted-is = refl
 
-colours-are : take 5 (checkOf five (front ++ 115 ∷ 105 ∷ 122 ∷ 101 ∷ 32 ∷ 49 ∷ 10 ∷ 53 ∷ 10 ∷ []) 5 .colours) ≡ 0 ∷ 1 ∷ 0 ∷ 1 ∷ 2 ∷ []
+colours-are : take 5 (checkOf true five (front ++ 115 ∷ 105 ∷ 122 ∷ 101 ∷ 32 ∷ 49 ∷ 10 ∷ 53 ∷ 10 ∷ []) 5 .colours) ≡ 0 ∷ 1 ∷ 0 ∷ 1 ∷ 2 ∷ []
 unfolding five front
 colours-are = refl
 

@@ -2,6 +2,7 @@ pub mod Sets
 pub mod Steps
 pub mod Fold
 pub mod Answers
+pub mod Alike
 pub mod Unique
 pub mod Places
 pub mod Examples

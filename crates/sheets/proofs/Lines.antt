@@ -23,7 +23,7 @@ use Rattle.refusals.specs.Table.{told}
 use Rattle.lists.specs.Read.{stepUpTo as stepList, afterUpTo as afterList, readFromUpTo, readUpTo, edgeOf, inside as insideList, start as startList, noRowsUpTo}
 use Rattle.lists.specs.Shape.{shapeOf}
 use Rattle.lists.specs.declared.Fault.{Fault}
-use Rattle.lists.specs.declared.Fault.the-variants.{Line as NoLine, Headless, Second, Size, Vertex, Loop, Count as Counted, Room, Long as TooLong, Digit as NoDigit, Space as NoSpace, Unended as NoFeed}
+use Rattle.lists.specs.declared.Fault.the-variants.{Line as NoLine, Headless, Second, Size, Vertex, Loop, Count as Counted, Room, Long as TooLong, Repeat, Digit as NoDigit, Space as NoSpace, Unended as NoFeed}
 use Rattle.lists.specs.declared.Found.{Found}
 use Rattle.lists.specs.declared.Head.{Head}
 use Rattle.lists.specs.declared.Reading.{Reading}
@@ -60,6 +60,7 @@ Roomy (Unreadable Vertex k c) = Unit {0}
 Roomy (Unreadable Loop k c) = Unit {0}
 Roomy (Unreadable Counted k c) = Unit {0}
 Roomy (Unreadable TooLong k c) = Unit {0}
+Roomy (Unreadable Repeat k c) = Unit {0}
 Roomy (Unreadable NoDigit k c) = Unit {0}
 Roomy (Unreadable NoSpace k c) = Unit {0}
 Roomy (Unreadable NoFeed k c) = Unit {0}
@@ -101,21 +102,22 @@ module _ (most : ℕ) where
       (λ _. cond-cases Enough (leb n most) _ _ (λ e. rw e tt) (λ _ k. tt))
   step-enough h p (E u v) a = cond-cases Enough (h .seen) _ _ (λ _. edge-enough h u v) (λ _ k. tt)
 
-  from-roomy : (t : Text) (k : ℕ) (h : Head) (g : List ℕ) → Roomy (readFromUpTo most t most k h g .answer)
-  from-roomy done k h g =
+  from-roomy : (plain : Bool) (t : Text) (k : ℕ) (h : Head) (g : List ℕ) → Roomy (readFromUpTo plain most t most k h g .answer)
+  from-roomy plain done k h g =
       cond-cases (λ (x : Found). Roomy (x .answer)) (h .seen) _ _ (λ _. cond-cases (λ (x : Found). Roomy (x .answer)) (eqb (h .count) (h .m)) _ _ (λ _. tt) (λ _. tt)) (λ _. tt)
-  from-roomy (unended l) k h g = roomy-shape (spotOf l .fault) k (spotOf l .column) (spot-shape l)
-  from-roomy (ended l t) k h g =
-      go (stepList most h most (spotOf l) (shapeOf l)) (step-enough h (spotOf l) (shapeOf l) (spot-shape l)) (from-roomy t (k + 1))
+  from-roomy plain (unended l) k h g = roomy-shape (spotOf l .fault) k (spotOf l .column) (spot-shape l)
+  from-roomy plain (ended l t) k h g =
+      go (stepList most h most (spotOf l) (shapeOf l)) (step-enough h (spotOf l) (shapeOf l) (spot-shape l)) (from-roomy plain t (k + 1))
     where
-      go : (st : ListStep) → Enough st → ((h : Head) (g : List ℕ) → Roomy (readFromUpTo most t most (k + 1) h g .answer)) → Roomy (afterList most st g k (readFromUpTo most t most (k + 1)) .answer)
+      go : (st : ListStep) → Enough st → ((h : Head) (g : List ℕ) → Roomy (readFromUpTo plain most t most (k + 1) h g .answer))
+          → Roomy (afterList plain most st g k (readFromUpTo plain most t most (k + 1)) .answer)
       go (StopListAt p) e r = roomy-shape (p .fault) k (p .column) e
       go (StopList f) e r = e k
       go (Go h) e r = r h g
-      go (Edge h i j) e r = r h _
+      go (Edge h i j) e r = cond-cases (λ (x : Found). Roomy (x .answer)) (plain && matrix g i j) _ _ (λ _. tt) (λ _. r h _)
 
-  read-roomy : (longest : ℕ) (s : List ℕ) → Roomy (readUpTo most longest s most .answer)
-  read-roomy longest s = cond-cases (λ (x : Found). Roomy (x .answer)) (leb (length s) longest) _ _ (λ _. from-roomy (linesOf s) 1 startList (noRowsUpTo most)) (λ _. tt)
+  read-roomy : (plain : Bool) (longest : ℕ) (s : List ℕ) → Roomy (readUpTo plain most longest s most .answer)
+  read-roomy plain longest s = cond-cases (λ (x : Found). Roomy (x .answer)) (leb (length s) longest) _ _ (λ _. from-roomy plain (linesOf s) 1 startList (noRowsUpTo most)) (λ _. tt)
 
 -- ---- the line that is named
 
@@ -284,15 +286,15 @@ names-ending (Unread f j c) k e h = tt
 names-ending Short k e h = tt
 names-ending (Refused f j) k e h = spot-tail f k e j h
 
-module _ (most longest : ℕ) where
-  check-ending : (list s : List ℕ) (room : ℕ) → Ending (suc (lineCount (linesOf s))) (checkUpTo most longest list s room .answer)
-  check-ending list s room = go (readUpTo most longest list most .answer)
+module _ (plain : Bool) (most longest : ℕ) where
+  check-ending : (list s : List ℕ) (room : ℕ) → Ending (suc (lineCount (linesOf s))) (checkUpTo plain most longest list s room .answer)
+  check-ending list s room = go (readUpTo plain most longest list most .answer)
     where
-      go : (a : Reading) → Ending (suc (lineCount (linesOf s))) (againstUpTo most longest a (readUpTo most longest list most .rows) s room .answer)
+      go : (a : Reading) → Ending (suc (lineCount (linesOf s))) (againstUpTo most longest a (readUpTo plain most longest list most .rows) s room .answer)
       go (Unreadable f j c) = tt
       go (Read n) =
           let E : Outcome → Type 0 = λ o. Ending (suc (lineCount (linesOf s))) (o .answer) in
-          let clash = matrix (readUpTo most longest list most .rows) in
+          let clash = matrix (readUpTo plain most longest list most .rows) in
           let z : 1 + lineCount (linesOf s) ≡ suc (lineCount (linesOf s)) = omega arith in
           cond-cases E (leb n room) _ _
           (λ _. cond-cases E (leb (length s) longest) _ _
@@ -303,18 +305,18 @@ module _ (most longest : ℕ) where
           (λ _. tt)
 
   -- for them the empty part at the sheet's end is shown
-  module _ (list s : RefT (List ℕ)) (room : ℕ) (r : RefT (List ℕ)) (p : PreviewPromiseUpTo most longest list s room r) (j : ℕ) where
+  module _ (list s : RefT (List ℕ)) (room : ℕ) (r : RefT (List ℕ)) (p : PreviewPromiseUpTo plain most longest list s room r) (j : ℕ) where
     -- the table names a line for them
-    at-end : (f : SheetFault) → told (refusalOf f) j .line ≡ j → checkUpTo most longest (now list) (now s) room .answer ≡ Refused f j
+    at-end : (f : SheetFault) → told (refusalOf f) j .line ≡ j → checkUpTo plain most longest (now list) (now s) room .answer ≡ Refused f j
         → j ≡ suc (lineCount (linesOf (now s))) → PartOf s (length (now s)) (length (now s)) r
     at-end f n e z =
         let x = subst (λ (a : Checked). ShownOf (heldBy (numbersOf a .text) list s) (numbersOf a .line) r) e p in
         shown-end s r (subst (λ (k : ℕ). ShownOf s k r) (n ∙ z) x)
 
-    pub preview-ends : checkUpTo most longest (now list) (now s) room .answer ≡ Refused Ends j → PartOf s (length (now s)) (length (now s)) r
+    pub preview-ends : checkUpTo plain most longest (now list) (now s) room .answer ≡ Refused Ends j → PartOf s (length (now s)) (length (now s)) r
     preview-ends e = at-end Ends refl e (subst (Ending (suc (lineCount (linesOf (now s))))) e (check-ending (now list) (now s) room))
 
-    pub preview-missing : checkUpTo most longest (now list) (now s) room .answer ≡ Refused Missing j → PartOf s (length (now s)) (length (now s)) r
+    pub preview-missing : checkUpTo plain most longest (now list) (now s) room .answer ≡ Refused Missing j → PartOf s (length (now s)) (length (now s)) r
     preview-missing e = at-end Missing refl e (subst (Ending (suc (lineCount (linesOf (now s))))) e (check-ending (now list) (now s) room))
 
   -- ---- 17 cannot arise
@@ -322,16 +324,16 @@ module _ (most longest : ℕ) where
   abbrev Other-than : Checked → Outcome → Type 0
   Other-than a o = ¬ (o .answer ≡ a)
 
-  pub never-room : (list s : List ℕ) (room k c : ℕ) → ¬ (checkUpTo most longest list s room .answer ≡ Unread Room k c)
-  never-room list s room k c e = go (readUpTo most longest list most .answer) (read-roomy most longest list) e
+  pub never-room : (list s : List ℕ) (room k c : ℕ) → ¬ (checkUpTo plain most longest list s room .answer ≡ Unread Room k c)
+  never-room list s room k c e = go (readUpTo plain most longest list most .answer) (read-roomy most plain longest list) e
     where
       fault-is : (f : Fault) (j d : ℕ) → Roomy (Unreadable f j d) → ¬ (Unread f j d ≡ Unread Room k c)
       fault-is f j d r e = let z : f ≡ Room = cc in subst (λ (x : Fault). Roomy (Unreadable x j d)) z r
 
-      go : (a : Reading) → Roomy a → Other-than (Unread Room k c) (againstUpTo most longest a (readUpTo most longest list most .rows) s room)
+      go : (a : Reading) → Roomy a → Other-than (Unread Room k c) (againstUpTo most longest a (readUpTo plain most longest list most .rows) s room)
       go (Unreadable f j d) r = fault-is f j d r
       go (Read n) r =
-          let clash = matrix (readUpTo most longest list most .rows) in
+          let clash = matrix (readUpTo plain most longest list most .rows) in
           cond-cases (Other-than (Unread Room k c)) (leb n room) _ _
           (λ _. cond-cases (Other-than (Unread Room k c)) (leb (length s) longest) _ _
           (λ _ e. subst (Names 1 (1 + lineCount (linesOf s))) e (from-names most n clash (linesOf s) 1 start none none (noColoursUpTo most)))

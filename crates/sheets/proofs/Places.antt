@@ -33,16 +33,16 @@ part-line t s (suc k) a e l p q =
     let w : a ≡ placeOf s k = p ∙ ap (placeOf s) z in
     ap (λ (x : ℕ). record { text = t; start = a; length = x - a }) q ∙ ap (λ (x : ℕ). record { text = t; start = x; length = lineEnd s x - x }) w
 
-module _ (most longest : ℕ) (list s : List ℕ) (room : ℕ) (o : Outcome) (m : Numbers) (p : Part) (e : o ≡ checkUpTo most longest list s room) (f : m ≡ numbersOf (o .answer)) where
-  numbers-are : numbersOf (checkUpTo most longest list s room .answer) ≡ m
+module _ (plain : Bool) (most longest : ℕ) (list s : List ℕ) (room : ℕ) (o : Outcome) (m : Numbers) (p : Part) (e : o ≡ checkUpTo plain most longest list s room) (f : m ≡ numbersOf (o .answer)) where
+  numbers-are : numbersOf (checkUpTo plain most longest list s room .answer) ≡ m
   numbers-are = sym (f ∙ ap (λ (x : Outcome). numbersOf (x .answer)) e)
 
-  pub place-list : m .text ≡ theList → p ≡ partAt (m .text) list (m .line) → PlacePromiseUpTo most longest list s room p
+  pub place-list : m .text ≡ theList → p ≡ partAt (m .text) list (m .line) → PlacePromiseUpTo plain most longest list s room p
   place-list t x =
       subst (λ (y : Numbers). p ≡ partAt (y .text) (heldBy (y .text) list s) (y .line)) (sym numbers-are)
       (subst (λ (b : Bool). p ≡ partAt (m .text) (cond b list s) (m .line)) (sym (eq-eqb (m .text) theList t)) x)
 
-  pub place-sheet : (m .text ≡ theList → ⊥) → p ≡ partAt (m .text) s (m .line) → PlacePromiseUpTo most longest list s room p
+  pub place-sheet : (m .text ≡ theList → ⊥) → p ≡ partAt (m .text) s (m .line) → PlacePromiseUpTo plain most longest list s room p
   place-sheet t x =
       subst (λ (y : Numbers). p ≡ partAt (y .text) (heldBy (y .text) list s) (y .line)) (sym numbers-are)
       (subst (λ (b : Bool). p ≡ partAt (m .text) (cond b list s) (m .line)) (sym (ne-eqb (m .text) theList t)) x)
@@ -72,12 +72,12 @@ text-is t s (suc k) = refl
 abbrev pub holder : RefT (List ℕ) → RefT (List ℕ) → Part → RefT (List ℕ)
 holder list s p = heldBy (p .text) list s
 
-module _ (most longest : ℕ) (list s : RefT (List ℕ)) (room : ℕ) (r : RefT (List ℕ)) where
+module _ (plain : Bool) (most longest : ℕ) (list s : RefT (List ℕ)) (room : ℕ) (r : RefT (List ℕ)) where
   abbrev m : Numbers
-  m = numbersOf (checkUpTo most longest (now list) (now s) room .answer)
+  m = numbersOf (checkUpTo plain most longest (now list) (now s) room .answer)
 
   abbrev whole : Part
-  whole = faultPartUpTo most longest (now list) (now s) room
+  whole = faultPartUpTo plain most longest (now list) (now s) room
 
   both : (b : Bool) (k : ℕ) → ShownOf (cond b list s) k r → At (cond b list s) (partAt (m .text) (cond b (now list) (now s)) k) r
   both true k x = at-shown (m .text) list k r x
@@ -91,29 +91,32 @@ module _ (most longest : ℕ) (list s : RefT (List ℕ)) (room : ℕ) (r : RefT 
   named = text-is (m .text) (heldBy (m .text) (now list) (now s)) (m .line)
 
   -- what `fault_line` returns lies at this place
-  pub place-up-to-shown : (p : Part) → PlacePromiseUpTo most longest (now list) (now s) room p → PreviewPromiseUpTo most longest list s room r → At (holder list s p) p r
+  pub place-up-to-shown : (p : Part) → PlacePromiseUpTo plain most longest (now list) (now s) room p
+      → PreviewPromiseUpTo plain most longest list s room r → At (holder list s p) p r
   place-up-to-shown p e x =
       subst (λ (q : Part). At (holder list s q) q r) (sym e)
       (subst (λ (t : ℕ). At (heldBy t list s) whole r) (sym named) (both (eqb (m .text) theList) (m .line) x))
 
   -- and what lies there is what it returns
-  pub shown-up-to-place : (p : Part) → PlacePromiseUpTo most longest (now list) (now s) room p → At (holder list s p) p r → PreviewPromiseUpTo most longest list s room r
+  pub shown-up-to-place : (p : Part) → PlacePromiseUpTo plain most longest (now list) (now s) room p → At (holder list s p) p r
+      → PreviewPromiseUpTo plain most longest list s room r
   shown-up-to-place p e x =
       back (eqb (m .text) theList) (m .line)
       (subst (λ (t : ℕ). At (heldBy t list s) whole r) named (subst (λ (q : Part). At (holder list s q) q r) e x))
 
 -- ---- one answer, with any limits and with today's
 
-pub place-up-to-unique : (most longest : ℕ) (list s : List ℕ) (room : ℕ) (p q : Part) → PlacePromiseUpTo most longest list s room p → PlacePromiseUpTo most longest list s room q → p ≡ q
-place-up-to-unique most longest list s room p q x y = x ∙ sym y
+pub place-up-to-unique : (plain : Bool) (most longest : ℕ) (list s : List ℕ) (room : ℕ) (p q : Part)
+    → PlacePromiseUpTo plain most longest list s room p → PlacePromiseUpTo plain most longest list s room q → p ≡ q
+place-up-to-unique plain most longest list s room p q x y = x ∙ sym y
 
-pub place-unique : (list s : List ℕ) (room : ℕ) (p q : Part) → PlacePromise list s room p → PlacePromise list s room q → p ≡ q
-place-unique = place-up-to-unique mostEntries longestText
+pub place-unique : (plain : Bool) (list s : List ℕ) (room : ℕ) (p q : Part) → PlacePromise plain list s room p → PlacePromise plain list s room q → p ≡ q
+place-unique plain = place-up-to-unique plain mostEntries longestText
 
-pub place-shown : (list s : RefT (List ℕ)) (room : ℕ) (r : RefT (List ℕ)) (p : Part) → PlacePromise (now list) (now s) room p
-    → PreviewPromise list s room r → At (holder list s p) p r
-place-shown = place-up-to-shown mostEntries longestText
+pub place-shown : (plain : Bool) (list s : RefT (List ℕ)) (room : ℕ) (r : RefT (List ℕ)) (p : Part) → PlacePromise plain (now list) (now s) room p
+    → PreviewPromise plain list s room r → At (holder list s p) p r
+place-shown plain = place-up-to-shown plain mostEntries longestText
 
-pub shown-place : (list s : RefT (List ℕ)) (room : ℕ) (r : RefT (List ℕ)) (p : Part) → PlacePromise (now list) (now s) room p
-    → At (holder list s p) p r → PreviewPromise list s room r
-shown-place = shown-up-to-place mostEntries longestText
+pub shown-place : (plain : Bool) (list s : RefT (List ℕ)) (room : ℕ) (r : RefT (List ℕ)) (p : Part) → PlacePromise plain (now list) (now s) room p
+    → At (holder list s p) p r → PreviewPromise plain list s room r
+shown-place plain = shown-up-to-place plain mostEntries longestText

@@ -2,6 +2,7 @@
 use Prim.Native.Nat.{ℕ, zero, suc}
 use mathlib.Core.Path.{_≡_, sym, _∙_}
 use mathlib.Core.List.{List}
+use mathlib.Core.Bool.{Bool}
 use denote.Ref.{RefT, now}
 use Rattle.lines.proofs.Parts.{part-unique}
 use Rattle.lists.specs.Read.{mostEntries, longestText}
@@ -13,22 +14,27 @@ shown-unique : (s : RefT (List ℕ)) (k : ℕ) (r q : RefT (List ℕ)) → Shown
 shown-unique s zero r q x y = part-unique s _ _ r q x y
 shown-unique s (suc k) r q x y = part-unique s _ _ r q x y
 
-module _ (most longest : ℕ) where
-  pub check-up-to-unique : (list s old : List ℕ) (a b : Checked) (new other : List ℕ) → CheckPromiseUpTo most longest list s old a new → CheckPromiseUpTo most longest list s old b other → (a ≡ b) × (new ≡ other)
+module _ (plain : Bool) (most longest : ℕ) where
+  pub check-up-to-unique : (list s old : List ℕ) (a b : Checked) (new other : List ℕ) → CheckPromiseUpTo plain most longest list s old a new
+      → CheckPromiseUpTo plain most longest list s old b other → (a ≡ b) × (new ≡ other)
   check-up-to-unique list s old a b new other x y = (x .answer ∙ sym (y .answer), x .lent ∙ sym (y .lent))
 
   -- the same bytes at the same place
-  pub preview-up-to-unique : (list s : RefT (List ℕ)) (room : ℕ) (r q : RefT (List ℕ)) → PreviewPromiseUpTo most longest list s room r → PreviewPromiseUpTo most longest list s room q
+  pub preview-up-to-unique : (list s : RefT (List ℕ)) (room : ℕ) (r q : RefT (List ℕ)) → PreviewPromiseUpTo plain most longest list s room r
+      → PreviewPromiseUpTo plain most longest list s room q
       → (now r ≡ now q) × (r .ptr .0 ≡ q .ptr .0) × (r .ptr .1 ≡ q .ptr .1)
   preview-up-to-unique list s room r q x y =
-      let m = numbersOf (checkUpTo most longest (now list) (now s) room .answer) in
+      let m = numbersOf (checkUpTo plain most longest (now list) (now s) room .answer) in
       shown-unique (heldBy (m .text) list s) (m .line) r q x y
 
 -- ---- with today's limits
 
-pub check-unique : (list s old : List ℕ) (a b : Checked) (new other : List ℕ) → CheckPromise list s old a new → CheckPromise list s old b other → (a ≡ b) × (new ≡ other)
-check-unique = check-up-to-unique mostEntries longestText
+pub check-unique : (plain : Bool) (list s old : List ℕ) (a b : Checked) (new other : List ℕ) → CheckPromise plain list s old a new
+    → CheckPromise plain list s old b other
+    → (a ≡ b) × (new ≡ other)
+check-unique plain = check-up-to-unique plain mostEntries longestText
 
-pub preview-unique : (list s : RefT (List ℕ)) (room : ℕ) (r q : RefT (List ℕ)) → PreviewPromise list s room r → PreviewPromise list s room q
+pub preview-unique : (plain : Bool) (list s : RefT (List ℕ)) (room : ℕ) (r q : RefT (List ℕ)) → PreviewPromise plain list s room r
+    → PreviewPromise plain list s room q
     → (now r ≡ now q) × (r .ptr .0 ≡ q .ptr .0) × (r .ptr .1 ≡ q .ptr .1)
-preview-unique = preview-up-to-unique mostEntries longestText
+preview-unique plain = preview-up-to-unique plain mostEntries longestText

@@ -10,15 +10,16 @@
 --   finish n p mates earlier colours k : what is found at the sheet's end, where the next line would be line k
 --   checkFrom t n clash k p mates earlier colours : the lines t, of which the first is line k, where the rest is known
 --   sheetOf n clash s   : the sheet s, checked against a list of n entries
---   checkOf list s room : the same against the clash text `list`, where so many colour bytes are lent
+--   checkOf plain list s room : the same against the clash text `list`, where so many colour bytes are lent; `plain` says by which reading the
+--                         list is read
 --
 -- p is what is known of the counts: whether "groups K" was read (begun), groups and members of this group still to come (left, need), groups
 -- opened, whether this group has no member yet (fresh), the first member of the latest group that has one (first, 0 for none), and what the
 -- next member has to be above (floor): the member before it in its group, or for a group's first the previous group's first.
 -- `mates` are this group's members so far, `earlier` those of the groups before it, `colours` the group number of each.
 --
--- What depends on a limit is stated for lists of up to `most` entries and texts of up to `longest` bytes (`finishUpTo most`, .., `checkUpTo most
--- longest`) and is then named for today's limits (`finish`, .., `checkOf`).
+-- What depends on a limit is stated for lists of up to `most` entries and texts of up to `longest` bytes (`finishUpTo most`, .., `checkUpTo plain
+-- most longest`) and is then named for today's limits (`finish`, .., `checkOf`).
 -- Assumes nothing.
 use Prim.Native.Nat.{ℕ, _+_, _-_}
 use mathlib.Core.List.{List, [], _∷_}
@@ -161,9 +162,10 @@ module _ (most : ℕ) where
     againstUpTo (Unreadable f k c) rows s room = withoutUpTo most (Unread f k c)
     againstUpTo (Read n) rows s room = cond (leb n room) (sheetUpTo n (matrix rows) s) (withoutUpTo most Short)
 
-    -- with as many rows to read into as a list can have, so that 17 cannot arise
-    abbrev pub checkUpTo : List ℕ → List ℕ → ℕ → Outcome
-    checkUpTo list s room = againstUpTo (readUpTo most longest list most .answer) (readUpTo most longest list most .rows) s room
+-- with as many rows to read into as a list can have, so that 17 cannot arise
+abbrev pub checkUpTo : Bool → ℕ → ℕ → List ℕ → List ℕ → ℕ → Outcome
+checkUpTo plain most longest list s room =
+    againstUpTo most longest (readUpTo plain most longest list most .answer) (readUpTo plain most longest list most .rows) s room
 
 -- ---- today's limits
 
@@ -194,5 +196,5 @@ sheetOf n clash s = sheetUpTo mostEntries longestText n clash s
 abbrev pub against : Reading → List ℕ → List ℕ → ℕ → Outcome
 against a rows s room = againstUpTo mostEntries longestText a rows s room
 
-abbrev pub checkOf : List ℕ → List ℕ → ℕ → Outcome
-checkOf list s room = checkUpTo mostEntries longestText list s room
+abbrev pub checkOf : Bool → List ℕ → List ℕ → ℕ → Outcome
+checkOf plain list s room = checkUpTo plain mostEntries longestText list s room

@@ -7,16 +7,17 @@
 --   numbersOf a     : the numbers of a check's answer: the refusal's (0: accepted), its line and column, k, and which text is at fault; those
 --                     that it does not name are 0
 --   writtenOf o old : what the lent colour bytes hold after a check
---   CheckPromise list s old a new : checking the sheet s against the list, with the bytes old lent, answers a and leaves the bytes new
+--   CheckPromise plain list s old a new : checking the sheet s against the list, with the bytes old lent, answers a and leaves the bytes new;
+--                     `plain` says by which reading the list is read
 --   ShownOf s k r   : r is what is shown of the text s for line k: that line without its line feed, or, where none is named, the empty part
 --                     at its start; past the last line, the empty part at its end
---   PreviewPromise list s room r : r is the part that is shown for a check with so many colour bytes
+--   PreviewPromise plain list s room r : r is the part that is shown for such a check with so many colour bytes
 --
--- Both promises are stated for any limits (`CheckPromiseUpTo most longest`, ..) and then named for today's.
+-- Both promises are stated for any limits (`CheckPromiseUpTo plain most longest`, ..) and then named for today's.
 -- Assumes nothing.
 use Prim.Native.Nat.{ℕ, zero, suc}
 use mathlib.Core.Path.{_≡_}
-use mathlib.Core.Bool.{cond}
+use mathlib.Core.Bool.{Bool, cond}
 use mathlib.Core.List.{List, _++_}
 use lib.Dec.{eqb}
 use lib.ListN.{length, take, drop}
@@ -90,14 +91,14 @@ written (Refused f k) n c old = old
 abbrev pub writtenOf : Outcome → List ℕ → List ℕ
 writtenOf o old = written (o .answer) (o .entries) (o .colours) old
 
-pub record CheckPromiseUpTo (most longest : ℕ) (list s old : List ℕ) (a : Checked) (new : List ℕ) : Type 0 where
+pub record CheckPromiseUpTo (plain : Bool) (most longest : ℕ) (list s old : List ℕ) (a : Checked) (new : List ℕ) : Type 0 where
   -- accepted with k, or refused with the first refusal that the texts have, its text, its line and its column
-  pub answer : a ≡ checkUpTo most longest list s (length old) .answer
+  pub answer : a ≡ checkUpTo plain most longest list s (length old) .answer
   -- accepted: bytes 0 to n - 1 are the group numbers, the others as they were; refused: nothing is written
-  pub lent : new ≡ writtenOf (checkUpTo most longest list s (length old)) old
+  pub lent : new ≡ writtenOf (checkUpTo plain most longest list s (length old)) old
 
-abbrev pub CheckPromise : List ℕ → List ℕ → List ℕ → Checked → List ℕ → Type 0
-CheckPromise list s old a new = CheckPromiseUpTo mostEntries longestText list s old a new
+abbrev pub CheckPromise : Bool → List ℕ → List ℕ → List ℕ → Checked → List ℕ → Type 0
+CheckPromise plain list s old a new = CheckPromiseUpTo plain mostEntries longestText list s old a new
 
 -- ---- the preview
 
@@ -105,10 +106,10 @@ abbrev pub ShownOf : RefT (List ℕ) → ℕ → RefT (List ℕ) → Type 0
 ShownOf s zero r = PartOf s 0 0 r
 ShownOf s (suc k) r = PartOf s (placeOf (now s) k) (lineEnd (now s) (placeOf (now s) k)) r
 
-abbrev pub PreviewPromiseUpTo : ℕ → ℕ → RefT (List ℕ) → RefT (List ℕ) → ℕ → RefT (List ℕ) → Type 0
-PreviewPromiseUpTo most longest list s room r =
-    let m = numbersOf (checkUpTo most longest (now list) (now s) room .answer) in
+abbrev pub PreviewPromiseUpTo : Bool → ℕ → ℕ → RefT (List ℕ) → RefT (List ℕ) → ℕ → RefT (List ℕ) → Type 0
+PreviewPromiseUpTo plain most longest list s room r =
+    let m = numbersOf (checkUpTo plain most longest (now list) (now s) room .answer) in
     ShownOf (heldBy (m .text) list s) (m .line) r
 
-abbrev pub PreviewPromise : RefT (List ℕ) → RefT (List ℕ) → ℕ → RefT (List ℕ) → Type 0
-PreviewPromise list s room r = PreviewPromiseUpTo mostEntries longestText list s room r
+abbrev pub PreviewPromise : Bool → RefT (List ℕ) → RefT (List ℕ) → ℕ → RefT (List ℕ) → Type 0
+PreviewPromise plain list s room r = PreviewPromiseUpTo plain mostEntries longestText list s room r

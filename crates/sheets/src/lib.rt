@@ -326,11 +326,12 @@ pub fn check_lines(rows: &[u64], n: usize, sheet: &[u8]) -> Outcome
     ended(n, p, mates, earlier, colours, line)
 }
 
-// Checks a sheet against a clash text, for so many lent colour bytes, and hands the group numbers over by value.
-pub fn check(list: &[u8], sheet: &[u8], room: usize) -> Outcome
-    ensures { λ r. ⌜ r ≡ checkOf (now (list .entry)) (now (sheet .entry)) room ⌝ }
+// Checks a sheet against a clash text, for so many lent colour bytes, and hands the group numbers over by value. In the list repeats are refused
+// where `plain` is true, else allowed: so here and below.
+pub fn check(list: &[u8], sheet: &[u8], room: usize, plain: bool) -> Outcome
+    ensures { λ r. ⌜ r ≡ checkOf plain (now (list .entry)) (now (sheet .entry)) room ⌝ }
 {
-    let found = lists::gather(list, 64);
+    let found = lists::gather(list, 64, plain);
     let answer = found.answer;
     match answer {
         lists::Reading::Refused(why, line, column) => without(Checked::Unread(why, line, column)),
@@ -357,10 +358,10 @@ fn copy_bytes(to: &mut [u8], from: &[u8], n: usize)
 }
 
 // Checks a sheet against a clash text; accepted, each entry's group number goes to the lent colour bytes.
-pub fn check_sheet(list: &[u8], sheet: &[u8], colours: &mut [u8]) -> Checked
-    ensures { λ r. ⌜ CheckPromise (now (list .entry)) (now (sheet .entry)) (now (colours .entry)) r (now (colours .exit)) ⌝ }
+pub fn check_sheet(list: &[u8], sheet: &[u8], colours: &mut [u8], plain: bool) -> Checked
+    ensures { λ r. ⌜ CheckPromise plain (now (list .entry)) (now (sheet .entry)) (now (colours .entry)) r (now (colours .exit)) ⌝ }
 {
-    let found = check(list, sheet, colours.len());
+    let found = check(list, sheet, colours.len(), plain);
     let gathered = found.colours;
     let n = found.entries;
     copy_bytes(colours, &gathered, n);
@@ -428,10 +429,10 @@ fn shown<'a>(text: &'a [u8], line: usize) -> &'a [u8]
 }
 
 // Checks again and shows the line at fault, as a part of the list or of the sheet, whichever holds it.
-pub fn fault_line<'a>(list: &'a [u8], sheet: &'a [u8], room: usize) -> &'a [u8]
-    ensures { λ r. ⌜ PreviewPromise (list .entry) (sheet .entry) room r ⌝ }
+pub fn fault_line<'a>(list: &'a [u8], sheet: &'a [u8], room: usize, plain: bool) -> &'a [u8]
+    ensures { λ r. ⌜ PreviewPromise plain (list .entry) (sheet .entry) room r ⌝ }
 {
-    let found = check(list, sheet, room);
+    let found = check(list, sheet, room, plain);
     let answer = found.answer;
     let m = numbers_of(answer);
     if m.text == LIST {
@@ -461,10 +462,10 @@ fn part_at(text: usize, s: &[u8], line: usize) -> Part
 }
 
 // The same part as `fault_line`, by its place: for callers that are handed numbers alone.
-pub fn fault_part(list: &[u8], sheet: &[u8], room: usize) -> Part
-    ensures { λ r. ⌜ PlacePromise (now (list .entry)) (now (sheet .entry)) room r ⌝ }
+pub fn fault_part(list: &[u8], sheet: &[u8], room: usize, plain: bool) -> Part
+    ensures { λ r. ⌜ PlacePromise plain (now (list .entry)) (now (sheet .entry)) room r ⌝ }
 {
-    let found = check(list, sheet, room);
+    let found = check(list, sheet, room, plain);
     let answer = found.answer;
     let m = numbers_of(answer);
     if m.text == LIST {

@@ -1,3 +1,4 @@
--- Each promise leaves one answer; and what a walk answers, written and checked, is accepted.
+-- Each promise leaves one answer; what a walk answers, written and checked, is accepted; and what both readings of a clash text answer alike.
 pub mod Unique
 pub mod OwnList
+pub mod Readings

@@ -1,6 +1,8 @@
--- Every promise of the face leaves one answer and one state of the lent memory, for every input, refused ones too. Assumes nothing.
+-- Every promise of the face leaves one answer and one state of the lent memory, for every input, refused ones too, and for both readings of a clash
+-- text. Assumes nothing.
 use mathlib.Core.Path.{_≡_}
 use mathlib.Core.List.{List}
+use mathlib.Core.Bool.{Bool}
 use Prim.Native.Nat.{ℕ}
 use denote.Ref.{RefT, now}
 use Rattle.clashes.specs.Matrix.{Judged}
@@ -49,7 +51,8 @@ pub plain-unique : (rows before : List ℕ) (budget : ℕ) (a b : Answer) (after
     → Promised plainWalk rows before budget b other → (a ≡ b) × (after ≡ other)
 plain-unique = promised-unique 64 plainWalk
 
-pub read-list-unique : (text old : List ℕ) (a b : Reading) (new other : List ℕ) → ReadPromise text old a new → ReadPromise text old b other
+pub read-list-unique : (plain : Bool) (text old : List ℕ) (a b : Reading) (new other : List ℕ) → ReadPromise plain text old a new
+    → ReadPromise plain text old b other
     → (a ≡ b) × (new ≡ other)
 read-list-unique = lists.read-unique
 
@@ -61,28 +64,32 @@ pub write-sheet-unique : (colours old : List ℕ) (a b : sheet.Written) (new oth
     → SheetPromise colours old b other → (a ≡ b) × (new ≡ other)
 write-sheet-unique = texts.write-unique
 
-pub check-sheet-unique : (list sheet old : List ℕ) (a b : Checked) (new other : List ℕ) → CheckPromise list sheet old a new
-    → CheckPromise list sheet old b other → (a ≡ b) × (new ≡ other)
+pub check-sheet-unique : (plain : Bool) (list sheet old : List ℕ) (a b : Checked) (new other : List ℕ) → CheckPromise plain list sheet old a new
+    → CheckPromise plain list sheet old b other → (a ≡ b) × (new ≡ other)
 check-sheet-unique = sheets.check-unique
 
 -- the part's bytes, and where it lies
-pub fault-line-unique : (list sheet : RefT (List ℕ)) (room : ℕ) (r q : RefT (List ℕ)) → PreviewPromise list sheet room r
-    → PreviewPromise list sheet room q → (now r ≡ now q) × (r .ptr .0 ≡ q .ptr .0) × (r .ptr .1 ≡ q .ptr .1)
+pub fault-line-unique : (plain : Bool) (list sheet : RefT (List ℕ)) (room : ℕ) (r q : RefT (List ℕ)) → PreviewPromise plain list sheet room r
+    → PreviewPromise plain list sheet room q → (now r ≡ now q) × (r .ptr .0 ≡ q .ptr .0) × (r .ptr .1 ≡ q .ptr .1)
 fault-line-unique = sheets.preview-unique
 
 -- the place in numbers; and what `fault_line` returns is just what lies there
-pub fault-part-unique : (list sheet : List ℕ) (room : ℕ) (p q : Part) → PlacePromise list sheet room p → PlacePromise list sheet room q → p ≡ q
+pub fault-part-unique : (plain : Bool) (list sheet : List ℕ) (room : ℕ) (p q : Part) → PlacePromise plain list sheet room p
+    → PlacePromise plain list sheet room q → p ≡ q
 fault-part-unique = places.place-unique
 
-pub fault-part-shown : (list sheet : RefT (List ℕ)) (room : ℕ) (r : RefT (List ℕ)) (p : Part) → PlacePromise (now list) (now sheet) room p
-    → PreviewPromise list sheet room r → places.At (places.holder list sheet p) p r
-fault-part-shown list sheet room r p = places.place-shown list sheet room r p
+pub fault-part-shown : (plain : Bool) (list sheet : RefT (List ℕ)) (room : ℕ) (r : RefT (List ℕ)) (p : Part)
+    → PlacePromise plain (now list) (now sheet) room p
+    → PreviewPromise plain list sheet room r → places.At (places.holder list sheet p) p r
+fault-part-shown plain list sheet room r p = places.place-shown plain list sheet room r p
 
-pub shown-fault-part : (list sheet : RefT (List ℕ)) (room : ℕ) (r : RefT (List ℕ)) (p : Part) → PlacePromise (now list) (now sheet) room p
-    → places.At (places.holder list sheet p) p r → PreviewPromise list sheet room r
-shown-fault-part list sheet room r p = places.shown-place list sheet room r p
+pub shown-fault-part : (plain : Bool) (list sheet : RefT (List ℕ)) (room : ℕ) (r : RefT (List ℕ)) (p : Part)
+    → PlacePromise plain (now list) (now sheet) room p
+    → places.At (places.holder list sheet p) p r → PreviewPromise plain list sheet room r
+shown-fault-part plain list sheet room r p = places.shown-place plain list sheet room r p
 
-pub answer-unique : (text old : List ℕ) (a b : Printed) (new other : List ℕ) → AnswerPromise text old a new → AnswerPromise text old b other
+pub answer-unique : (plain : Bool) (text old : List ℕ) (a b : Printed) (new other : List ℕ) → AnswerPromise plain text old a new
+    → AnswerPromise plain text old b other
     → (a ≡ b) × (new ≡ other)
 answer-unique = answers.answer-unique
 

@@ -1,11 +1,13 @@
 // The library's face: every function that a wizard calls. None asks its caller to check anything beforehand, each answers every input by one
-// promise, and none writes to lent memory where it refuses.
+// promise, and none writes to lent memory where it refuses. A call that is given a clash text exists for both readings: the plain one refuses an edge
+// that stands a second time, either way round; the one whose name ends in `repeats` allows it. Both meet one promise.
 use answers::Printed;
 use bounds::Bound;
 use clashes::Verdict;
 use lists::Reading;
 use sheets::Checked;
 use walk::Answer;
+ghost use mathlib.Core.Bool.{true, false};
 ghost use Rattle.clashes.specs.Matrix.{Judged};
 ghost use Rattle.bounds.specs.Names.{cliqueBound, mycielskian};
 ghost use Rattle.bounds.specs.Lent.{Answers};
@@ -56,9 +58,15 @@ pub fn plain(rows: &[u64], colours: &mut [u8], budget: u64) -> Answer
 
 // Reads a clash text into the lent rows.
 pub fn read_list(text: &[u8], rows: &mut [u64]) -> Reading
-    ensures { λ r. ⌜ ReadPromise (now (text .entry)) (now (rows .entry)) r (now (rows .exit)) ⌝ }
+    ensures { λ r. ⌜ ReadPromise true (now (text .entry)) (now (rows .entry)) r (now (rows .exit)) ⌝ }
 {
-    lists::read_list(text, rows)
+    lists::read_list(text, rows, true)
+}
+
+pub fn read_list_repeats(text: &[u8], rows: &mut [u64]) -> Reading
+    ensures { λ r. ⌜ ReadPromise false (now (text .entry)) (now (rows .entry)) r (now (rows .exit)) ⌝ }
+{
+    lists::read_list(text, rows, false)
 }
 
 // Writes the text of a list to the lent bytes.
@@ -77,34 +85,58 @@ pub fn write_sheet(colours: &[u8], out: &mut [u8]) -> sheet_texts::Written
 
 // Checks a sheet against a clash text; accepted, each entry's group number goes to the lent bytes.
 pub fn check_sheet(list: &[u8], sheet: &[u8], colours: &mut [u8]) -> Checked
-    ensures { λ r. ⌜ CheckPromise (now (list .entry)) (now (sheet .entry)) (now (colours .entry)) r (now (colours .exit)) ⌝ }
+    ensures { λ r. ⌜ CheckPromise true (now (list .entry)) (now (sheet .entry)) (now (colours .entry)) r (now (colours .exit)) ⌝ }
 {
-    sheets::check_sheet(list, sheet, colours)
+    sheets::check_sheet(list, sheet, colours, true)
+}
+
+pub fn check_sheet_repeats(list: &[u8], sheet: &[u8], colours: &mut [u8]) -> Checked
+    ensures { λ r. ⌜ CheckPromise false (now (list .entry)) (now (sheet .entry)) (now (colours .entry)) r (now (colours .exit)) ⌝ }
+{
+    sheets::check_sheet(list, sheet, colours, false)
 }
 
 // Checks again, for so many colour bytes, and shows the line at fault, as a part of the list or of the sheet, whichever holds it.
 pub fn fault_line<'a>(list: &'a [u8], sheet: &'a [u8], room: usize) -> &'a [u8]
-    ensures { λ r. ⌜ PreviewPromise (list .entry) (sheet .entry) room r ⌝ }
+    ensures { λ r. ⌜ PreviewPromise true (list .entry) (sheet .entry) room r ⌝ }
 {
-    sheets::fault_line(list, sheet, room)
+    sheets::fault_line(list, sheet, room, true)
+}
+
+pub fn fault_line_repeats<'a>(list: &'a [u8], sheet: &'a [u8], room: usize) -> &'a [u8]
+    ensures { λ r. ⌜ PreviewPromise false (list .entry) (sheet .entry) room r ⌝ }
+{
+    sheets::fault_line(list, sheet, room, false)
 }
 
 // The same part by its place, for callers that cannot be handed a part of what they lend.
 pub fn fault_part(list: &[u8], sheet: &[u8], room: usize) -> sheets::Part
-    ensures { λ r. ⌜ PlacePromise (now (list .entry)) (now (sheet .entry)) room r ⌝ }
+    ensures { λ r. ⌜ PlacePromise true (now (list .entry)) (now (sheet .entry)) room r ⌝ }
 {
-    sheets::fault_part(list, sheet, room)
+    sheets::fault_part(list, sheet, room, true)
+}
+
+pub fn fault_part_repeats(list: &[u8], sheet: &[u8], room: usize) -> sheets::Part
+    ensures { λ r. ⌜ PlacePromise false (now (list .entry)) (now (sheet .entry)) room r ⌝ }
+{
+    sheets::fault_part(list, sheet, room, false)
 }
 
 // Writes what slotsheet prints for a clash text to the lent bytes: the sheet of its fewest sittings, by a walk with a budget of 1,000,000, or
 // "refused R line L" and a line feed, with " column C" before it where there is a column.
 pub fn answer(text: &[u8], out: &mut [u8]) -> Printed
-    ensures { λ r. ⌜ AnswerPromise (now (text .entry)) (now (out .entry)) r (now (out .exit)) ⌝ }
+    ensures { λ r. ⌜ AnswerPromise true (now (text .entry)) (now (out .entry)) r (now (out .exit)) ⌝ }
 {
-    answers::answer(text, out)
+    answers::answer(text, out, true)
 }
 
-// The same for any text that is too long to be read, without it.
+pub fn answer_repeats(text: &[u8], out: &mut [u8]) -> Printed
+    ensures { λ r. ⌜ AnswerPromise false (now (text .entry)) (now (out .entry)) r (now (out .exit)) ⌝ }
+{
+    answers::answer(text, out, false)
+}
+
+// The same for any text that is too long to be read, without it: both readings refuse it alike.
 pub fn answer_long(out: &mut [u8]) -> Printed
     ensures { λ r. ⌜ LongPromise (now (out .entry)) r (now (out .exit)) ⌝ }
 {

@@ -31,8 +31,9 @@ use Rattle.lists.specs.declared.Reading.{Reading}
 use Rattle.lists.specs.declared.Reading.the-variants.{Read, Refused}
 use Rattle.lists.specs.declared.Found.{Found}
 use Rattle.lines.proofs.Basics.{cond-cases}
-use Rattle.texts.specs.Listed.{At, EdgeLine, edgeLines, Whole, Proper, ListOf}
+use Rattle.texts.specs.Listed.{At, EdgeLine, RepeatAt, edgeLines, Whole, Proper, ListOf}
 use Rattle.texts.proofs.ListLines.{at-first, at-later, at-cases}
+use Rattle.texts.proofs.ListRefused.{list-clean}
 use Rattle.texts.proofs.ListBody.{Body, Bodied, edge-later, edge-back, edge-back-p, body}
 
 -- ---- before the p line
@@ -100,7 +101,7 @@ Fronted most room t w (Refused f k c) = Unit {0}
 abbrev FrontOf : ℕ → ℕ → Text → Found → Type 0
 FrontOf most room t x = Fronted most room t (x .rows) (x .answer)
 
-module _ (most room : ℕ) where
+module _ (plain : Bool) (most room : ℕ) where
   fronted-more : (l : List ℕ) (t : Text) (w : List ℕ) (a : Reading) → ((n : ℕ) → Front most room t n w → Front most room (ended l t) n w)
       → Fronted most room t w a → Fronted most room (ended l t) w a
   fronted-more l t w (Read n) f x = f n x
@@ -112,7 +113,7 @@ module _ (most room : ℕ) where
   fronted-body l t h g w (Refused e k c) f x = tt
 
   front : (t : Text) (line : ℕ) (h : Head) (g : List ℕ) → h .seen ≡ false → length g ≡ most → ((i j : ℕ) → T (matrix g i j) → ⊥)
-      → FrontOf most room t (readFromUpTo most t room line h g)
+      → FrontOf most room t (readFromUpTo plain most t room line h g)
   front done line h g q z bare = cond-cases (FrontOf most room done) (h .seen) _ _ (λ e. absurd (subst T (sym e ∙ q) tt)) (λ _. tt)
   front (unended l) line h g q z bare = tt
   front (ended l t) line h g q z bare = go (shapeOf l) refl (front t (line + 1))
@@ -125,23 +126,23 @@ module _ (most room : ℕ) where
 
       go : (s : Shape) → shapeOf l ≡ s
           → ((h : Head) (g : List ℕ) → h .seen ≡ false → length g ≡ most → ((i j : ℕ) → T (matrix g i j) → ⊥)
-          → FrontOf most room t (readFromUpTo most t room (line + 1) h g))
-          → FrontOf most room (ended l t) (afterUpTo most (stepUpTo most h room (spotOf l) s) g line (readFromUpTo most t room (line + 1)))
+          → FrontOf most room t (readFromUpTo plain most t room (line + 1) h g))
+          → FrontOf most room (ended l t) (afterUpTo plain most (stepUpTo most h room (spotOf l) s) g line (readFromUpTo plain most t room (line + 1)))
       go Bad e r = tt
-      go Comment e r = fronted-more l t _ (readFromUpTo most t room (line + 1) h g .answer) (λ n x. front-comment most room l t n _ e x) (r h g q z bare)
+      go Comment e r = fronted-more l t _ (readFromUpTo plain most t room (line + 1) h g .answer) (λ n x. front-comment most room l t n _ e x) (r h g q z bare)
       go (P c d) e r =
-          let F : Step → Type 0 = λ s. FrontOf most room (ended l t) (afterUpTo most s g line (readFromUpTo most t room (line + 1))) in
+          let F : Step → Type 0 = λ s. FrontOf most room (ended l t) (afterUpTo plain most s g line (readFromUpTo plain most t room (line + 1))) in
           let x : Head = record { seen = true; n = c; m = d; count = 0 } in
           cond-cases F (h .seen) _ _ (λ _. tt)
           (λ _. cond-cases F (leb c most) _ _
           (λ a. cond-cases F (leb c room) _ _
-          (λ b. fronted-body l t x g _ (readFromUpTo most t room (line + 1) x g .answer)
+          (λ b. fronted-body l t x g _ (readFromUpTo plain most t room (line + 1) x g .answer)
           (λ n y. header c d e (leb-true c most a) (leb-true c room b) x refl refl refl n _ y)
-          (body most room t (line + 1) x g refl (omega (arith, leb-true c most a))))
+          (body plain most room t (line + 1) x g refl (omega (arith, leb-true c most a))))
           (λ _. tt))
           (λ _. tt))
       go (E u v) e r =
-          let F : Step → Type 0 = λ s. FrontOf most room (ended l t) (afterUpTo most s g line (readFromUpTo most t room (line + 1))) in
+          let F : Step → Type 0 = λ s. FrontOf most room (ended l t) (afterUpTo plain most s g line (readFromUpTo plain most t room (line + 1))) in
           cond-cases F (h .seen) _ _ (λ z. absurd (subst T (sym z ∙ q) tt)) (λ _. tt)
 
 -- ---- the whole text
@@ -154,7 +155,7 @@ none-bare most a b h = subst T (ap (λ (r : ℕ). has r b) (row most a) ∙ has-
     row (suc m) zero = refl
     row (suc m) (suc i) = row m i
 
-module _ (most longest : ℕ) where
+module _ (plain : Bool) (most longest : ℕ) where
   abbrev Shown : List ℕ → ℕ → List ℕ → Reading → Type 0
   Shown s room w (Read n) = (length s ≤ longest) × Front most room (linesOf s) n w
   Shown s room w (Refused f k c) = Unit {0}
@@ -163,13 +164,13 @@ module _ (most longest : ℕ) where
   shown s room h w (Read n) x = (h, x)
   shown s room h w (Refused f k c) x = tt
 
-  front-accepted : (s : List ℕ) (room n : ℕ) → readUpTo most longest s room .answer ≡ Read n
-      → (length s ≤ longest) × Front most room (linesOf s) n (readUpTo most longest s room .rows)
+  front-accepted : (s : List ℕ) (room n : ℕ) → readUpTo plain most longest s room .answer ≡ Read n
+      → (length s ≤ longest) × Front most room (linesOf s) n (readUpTo plain most longest s room .rows)
   front-accepted s room n a =
-      subst (Shown s room (readUpTo most longest s room .rows)) a
+      subst (Shown s room (readUpTo plain most longest s room .rows)) a
       (cond-cases (λ (x : Found). Shown s room (x .rows) (x .answer)) (leb (length s) longest) _ _
-      (λ e. shown s room (leb-true (length s) longest e) _ (readFromUpTo most (linesOf s) room 1 start (noRowsUpTo most) .answer)
-      (front most room (linesOf s) 1 start (noRowsUpTo most) refl (length-replicate most 0) (none-bare most)))
+      (λ e. shown s room (leb-true (length s) longest e) _ (readFromUpTo plain most (linesOf s) room 1 start (noRowsUpTo most) .answer)
+      (front plain most room (linesOf s) 1 start (noRowsUpTo most) refl (length-replicate most 0) (none-bare most)))
       (λ _. tt))
 
   -- the rows from n on have no clash
@@ -188,8 +189,8 @@ module _ (most longest : ℕ) where
         back : (i j : ℕ) → i < n → T (matrix w i j) → T (matrix (take n w) i j)
         back i j h x = subst T (sym (ap (λ (y : ℕ). has y j) (getD-take n w i 0 h))) x
 
-    pub list-is : ListOf most longest s n (take n w)
-    list-is = record {
+    pub list-is : (T plain → (k : ℕ) → ¬ RepeatAt (linesOf s) k) → ListOf plain most longest s n (take n w)
+    list-is once = record {
       short = short;
       few = r .few;
       whole = r .whole;
@@ -200,15 +201,16 @@ module _ (most longest : ℕ) where
       only = r .only;
       counted = r .counted;
       edges = r .edges;
+      once = once;
       long = length-take-le n w (omega (arith, r .few, r .long));
       clashes = λ i j. let e = ap (λ (m : ℕ → ℕ → Bool). m i j) first-rows in (λ x. r .was i j (subst T e x), λ x. subst T (sym e) (r .new i j x));
     }
 
   -- what is read as n entries is a list of n, whose clashes are those of the first n rows
-  pub list-accepted : (s : List ℕ) (room n : ℕ) → readUpTo most longest s room .answer ≡ Read n
-      → ListOf most longest s n (take n (readUpTo most longest s room .rows)) × (n ≤ room)
-      × (matrix (take n (readUpTo most longest s room .rows)) ≡ matrix (readUpTo most longest s room .rows))
+  pub list-accepted : (s : List ℕ) (room n : ℕ) → readUpTo plain most longest s room .answer ≡ Read n
+      → ListOf plain most longest s n (take n (readUpTo plain most longest s room .rows)) × (n ≤ room)
+      × (matrix (take n (readUpTo plain most longest s room .rows)) ≡ matrix (readUpTo plain most longest s room .rows))
   list-accepted s room n a =
       let r = front-accepted s room n a in
-      let w = readUpTo most longest s room .rows in
-      (list-is s room n w (r .0) (r .1), r .1 .fits, first-rows s room n w (r .0) (r .1))
+      let w = readUpTo plain most longest s room .rows in
+      (list-is s room n w (r .0) (r .1) (λ p k x. list-clean plain most longest s room n a k (x .3 .0 .1) 20 (p, x)), r .1 .fits, first-rows s room n w (r .0) (r .1))

@@ -7,7 +7,7 @@ use Prim.Native.Nat.{ℕ, suc, _+_, _-_, _≤_, _<_}
 use mathlib.Core.Path.{_≡_, refl, sym, ap, subst, _∙_}
 use mathlib.Core.Logic.{_⊎_, inl, inr, ⊎-elim}
 use mathlib.Core.List.{List}
-use mathlib.Core.Bool.{true}
+use mathlib.Core.Bool.{Bool, true, _&&_}
 use native.Mathlib.Omega.{arith}
 use borrow.Author.Tests.{eqb-true, eqb-false}
 use lib.Dec.{T, eqb}
@@ -156,8 +156,8 @@ bodied-more : (l : List ℕ) (t : Text) (h x : Head) (g y w : List ℕ) (a : Rea
 bodied-more l t h x g y w (Read n) f b = f n b
 bodied-more l t h x g y w (Refused e k c) f b = tt
 
-module _ (most room : ℕ) where
-  pub body : (t : Text) (line : ℕ) (h : Head) (g : List ℕ) → h .seen ≡ true → h .n ≤ length g → BodyOf t h g (readFromUpTo most t room line h g)
+module _ (plain : Bool) (most room : ℕ) where
+  pub body : (t : Text) (line : ℕ) (h : Head) (g : List ℕ) → h .seen ≡ true → h .n ≤ length g → BodyOf t h g (readFromUpTo plain most t room line h g)
   body done line h g q f =
       let B = BodyOf done h g in
       cond-cases B (h .seen) _ _ (λ _. cond-cases B (eqb (h .count) (h .m)) _ _ (λ e. body-end h g (eqb-true (h .count) (h .m) e)) (λ _. tt)) (λ _. tt)
@@ -165,24 +165,25 @@ module _ (most room : ℕ) where
   body (ended l t) line h g q f = go (shapeOf l) refl (body t (line + 1))
     where
       go : (s : Shape) → shapeOf l ≡ s
-          → ((h : Head) (g : List ℕ) → h .seen ≡ true → h .n ≤ length g → BodyOf t h g (readFromUpTo most t room (line + 1) h g))
-          → BodyOf (ended l t) h g (afterUpTo most (stepUpTo most h room (spotOf l) s) g line (readFromUpTo most t room (line + 1)))
+          → ((h : Head) (g : List ℕ) → h .seen ≡ true → h .n ≤ length g → BodyOf t h g (readFromUpTo plain most t room (line + 1) h g))
+          → BodyOf (ended l t) h g (afterUpTo plain most (stepUpTo most h room (spotOf l) s) g line (readFromUpTo plain most t room (line + 1)))
       go Bad e r = tt
-      go Comment e r = bodied-more l t h h g g _ (readFromUpTo most t room (line + 1) h g .answer) (λ n x. body-comment l t h g n _ e x) (r h g q f)
+      go Comment e r = bodied-more l t h h g g _ (readFromUpTo plain most t room (line + 1) h g .answer) (λ n x. body-comment l t h g n _ e x) (r h g q f)
       go (P c d) e r =
-          let F : Step → Type 0 = λ s. BodyOf (ended l t) h g (afterUpTo most s g line (readFromUpTo most t room (line + 1))) in
+          let F : Step → Type 0 = λ s. BodyOf (ended l t) h g (afterUpTo plain most s g line (readFromUpTo plain most t room (line + 1))) in
           cond-cases F (h .seen) _ _ (λ _. tt) (λ z. absurd (subst T (sym q ∙ z) tt))
       go (E u v) e r =
-          let F : Step → Type 0 = λ s. BodyOf (ended l t) h g (afterUpTo most s g line (readFromUpTo most t room (line + 1))) in
+          let F : Step → Type 0 = λ s. BodyOf (ended l t) h g (afterUpTo plain most s g line (readFromUpTo plain most t room (line + 1))) in
           let i = u - 1 in
           let j = v - 1 in
           cond-cases F (h .seen) _ _
           (λ _. cond-cases F (inside (h .n) u) _ _
           (λ a. cond-cases F (inside (h .n) v) _ _
           (λ b. cond-cases F (eqb u v) _ _ (λ _. tt)
-          (λ d. bodied-more l t h (more h) g (join g i j) _ (readFromUpTo most t room (line + 1) (more h) (join g i j) .answer)
+          (λ d. cond-cases (BodyOf (ended l t) h g) (plain && matrix g i j) _ _ (λ _. tt)
+          (λ _. bodied-more l t h (more h) g (join g i j) _ (readFromUpTo plain most t room (line + 1) (more h) (join g i j) .answer)
           (λ n x. body-edge l t h g n _ u v e f (record { first = inside-is (h .n) u a; second = inside-is (h .n) v b; differ = eqb-false u v d }) x)
-          (r (more h) (join g i j) refl (omega (arith, join-length g i j)))))
+          (r (more h) (join g i j) refl (omega (arith, join-length g i j))))))
           (λ _. tt))
           (λ _. tt))
           (λ _. tt)

@@ -16,7 +16,7 @@ use Rattle.lines.specs.Text.{Text, Within}
 use Rattle.lists.specs.Shape.{shapeOf}
 use Rattle.lists.specs.declared.Shape.the-variants.{Bad}
 use Rattle.lists.specs.declared.Fault.{Fault}
-use Rattle.lists.specs.declared.Fault.the-variants.{Line, Headless, Second, Size, Room, Vertex, Loop, Count, Long, Digit, Space, Unended}
+use Rattle.lists.specs.declared.Fault.the-variants.{Line, Headless, Second, Size, Room, Vertex, Loop, Count, Long, Repeat, Digit, Space, Unended}
 use Rattle.lists.specs.declared.Spot.{Spot}
 use Rattle.lists.specs.Expect.{Piece, letter, space, number, more, anything, Pieces, permits, Due, Astray, digitAt, faultAt, ofShape, permitted, spotOf}
 use Rattle.lists.specs.Promise.{numberOf}
@@ -43,6 +43,7 @@ dueTest Vertex g d = false
 dueTest Loop g d = false
 dueTest Count g d = false
 dueTest Long g d = false
+dueTest Repeat g d = false
 
 -- the fault of what is expected is the one whose test passes
 due-passes : (g : Pieces) (d : Bool) → T (dueTest (faultAt g d) g d)
@@ -108,8 +109,8 @@ module _ (t : Text) (k : ℕ) where
   abbrev pub Shaped : Fault → Type 0
   Shaped f = Spoilt f ⊎ ((f ≡ Unended) × NoFeed t k × ¬ At t k Bad)
 
-  module _ (most room : ℕ) where
-    pub has-shaped : (f : Fault) → T (ofShape f) → Has most t room k (numberOf f) → Shaped f
+  module _ (plain : Bool) (most room : ℕ) where
+    pub has-shaped : (f : Fault) → T (ofShape f) → Has plain most t room k (numberOf f) → Shaped f
     has-shaped Line a x = inl (went Line wordDue word-fault x)
     has-shaped Digit a x = inl (went Digit digitDue digit-fault x)
     has-shaped Space a x = inl (went Space gapDue gap-fault x)
@@ -122,12 +123,13 @@ module _ (t : Text) (k : ℕ) where
     has-shaped Loop a x = absurd a
     has-shaped Count a x = absurd a
     has-shaped Long a x = absurd a
+    has-shaped Repeat a x = absurd a
 
     -- of a line that is neither bad nor unended there is none
-    pub shape-clean : ¬ At t k Bad → ¬ NoFeed t k → (f : Fault) → T (ofShape f) → ¬ Has most t room k (numberOf f)
+    pub shape-clean : ¬ At t k Bad → ¬ NoFeed t k → (f : Fault) → T (ofShape f) → ¬ Has plain most t room k (numberOf f)
     shape-clean b u f a x = ⊎-elim (λ s. b (s .bad)) (λ s. u (s .1)) (has-shaped f a x)
 
-    pub shape-one : (f g : Fault) → T (ofShape f) → T (ofShape g) → Has most t room k (numberOf f) → Has most t room k (numberOf g) → f ≡ g
+    pub shape-one : (f g : Fault) → T (ofShape f) → T (ofShape g) → Has plain most t room k (numberOf f) → Has plain most t room k (numberOf g) → f ≡ g
     shape-one f g a b x y = go (has-shaped f a x) (has-shaped g b y)
       where
         go : Shaped f → Shaped g → f ≡ g
@@ -139,7 +141,7 @@ module _ (t : Text) (k : ℕ) where
     -- ---- the one that is found
 
     wents : (f : Fault) (c : ℕ) (g : Pieces) → At t k Bad → Astray permitted (lineAt t k) c → Due permitted (take (c - 1) (lineAt t k)) g
-        → T (dueTest f g (digitAt (drop (c - 1) (lineAt t k)))) → Has most t room k (numberOf f)
+        → T (dueTest f g (digitAt (drop (c - 1) (lineAt t k)))) → Has plain most t room k (numberOf f)
     wents Line c g b a d q = record { bad = b; column = c; astray = a; expected = g; due = d; kind = q }
     wents Digit c g b a d q = record { bad = b; column = c; astray = a; expected = g; due = d; kind = q }
     wents Space c g b a d q = record { bad = b; column = c; astray = a; expected = g; due = d; kind = q }
@@ -152,12 +154,13 @@ module _ (t : Text) (k : ℕ) where
     wents Loop c g b a d q = absurd q
     wents Count c g b a d q = absurd q
     wents Long c g b a d q = absurd q
+    wents Repeat c g b a d q = absurd q
 
     module _ (l : List ℕ) (e : lineAt t k ≡ l) (w : At t k (shapeOf l)) where
-      pub bad-has : shapeOf l ≡ Bad → Has most t room k (numberOf (spotOf l .fault))
+      pub bad-has : shapeOf l ≡ Bad → Has plain most t room k (numberOf (spotOf l .fault))
       bad-has b =
           let r = spot-bad l (permitted-bad l .1 b) in
-          subst (λ (f : Fault). Has most t room k (numberOf f)) (sym (r .2))
+          subst (λ (f : Fault). Has plain most t room k (numberOf f)) (sym (r .2))
           (wents (faultAt (r .0) (digitAt (drop (spotOf l .column - 1) l))) (spotOf l .column) (r .0) (subst (At t k) b w)
           (subst (λ (x : List ℕ). Astray permitted x (spotOf l .column)) (sym e) (spot-astray l))
           (subst (λ (x : List ℕ). Due permitted (take (spotOf l .column - 1) x) (r .0)) (sym e) (r .1))
@@ -166,13 +169,13 @@ module _ (t : Text) (k : ℕ) where
           (due-passes (r .0) (digitAt (drop (spotOf l .column - 1) l)))))
 
       -- of a line without its line feed: its own fault, or 23
-      pub open-has : NoFeed t k → Has most t room k (numberOf (spotOf l .fault))
+      pub open-has : NoFeed t k → Has plain most t room k (numberOf (spotOf l .fault))
       open-has u = go (permits permitted l) refl
         where
-          go : (b : Bool) → permits permitted l ≡ b → Has most t room k (numberOf (spotOf l .fault))
+          go : (b : Bool) → permits permitted l ≡ b → Has plain most t room k (numberOf (spotOf l .fault))
           go false p = bad-has (permitted-bad l .0 p)
           go true p =
-              subst (λ (s : Spot). Has most t room k (numberOf (s .fault))) (sym (spot-whole l p))
+              subst (λ (s : Spot). Has plain most t room k (numberOf (s .fault))) (sym (spot-whole l p))
               (u, λ a. subst T (sym p ∙ permitted-bad l .1 (sym (w .1) ∙ a .1)) tt)
 
 -- ---- its place in the order, and its column
@@ -190,6 +193,7 @@ shape-place Vertex a = absurd a
 shape-place Loop a = absurd a
 shape-place Count a = absurd a
 shape-place Long a = absurd a
+shape-place Repeat a = absurd a
 
 other-place : (f : Fault) → ofShape f ≡ false → 4 ≤ place listOrder (numberOf f)
 other-place Line a = absurd (subst T a tt)
@@ -204,6 +208,7 @@ other-place Vertex a = omega arith
 other-place Loop a = omega arith
 other-place Count a = omega arith
 other-place Long a = omega arith
+other-place Repeat a = omega arith
 
 -- before a fault of shape in the order stand only such
 pub shape-before : (f g : Fault) → T (ofShape f) → place listOrder (numberOf g) < place listOrder (numberOf f) → T (ofShape g)
@@ -226,20 +231,21 @@ column-shape t Vertex k c a h = absurd a
 column-shape t Loop k c a h = absurd a
 column-shape t Count k c a h = absurd a
 column-shape t Long k c a h = absurd a
+column-shape t Repeat k c a h = absurd a
 
 -- ---- the line is refused with it
 
-module _ (most : ℕ) (t : Text) (room k : ℕ) (f : Fault) (a : T (ofShape f)) (x : Has most t room k (numberOf f)) where
-  shape-lowest : (g : Fault) → place listOrder (numberOf g) < place listOrder (numberOf f) → ¬ Has most t room k (numberOf g)
+module _ (plain : Bool) (most : ℕ) (t : Text) (room k : ℕ) (f : Fault) (a : T (ofShape f)) (x : Has plain most t room k (numberOf f)) where
+  shape-lowest : (g : Fault) → place listOrder (numberOf g) < place listOrder (numberOf f) → ¬ Has plain most t room k (numberOf g)
   shape-lowest g p y =
-      let e = shape-one t k most room g f (shape-before f g a p) a y x in
+      let e = shape-one t k plain most room g f (shape-before f g a p) a y x in
       omega (arith, subst (λ (h : Fault). place listOrder (numberOf h) < place listOrder (numberOf f)) e p)
 
-  pub shape-found : Within t k → ((j : ℕ) → j < k → Clean (Has most t room) j) → Found most t room f k
+  pub shape-found : Within t k → ((j : ℕ) → j < k → Clean (Has plain most t room) j) → Found plain most t room f k
   shape-found w c = inl (record {
     within = w;
     fault = x;
     first = c;
-    lowest = λ g p y. let v = has-fault most t room k g y in
-        shape-lowest (v .0) (subst (λ (m : ℕ). place listOrder m < place listOrder (numberOf f)) (v .1) p) (subst (Has most t room k) (v .1) y);
+    lowest = λ g p y. let v = has-fault plain most t room k g y in
+        shape-lowest (v .0) (subst (λ (m : ℕ). place listOrder m < place listOrder (numberOf f)) (v .1) p) (subst (Has plain most t room k) (v .1) y);
   })

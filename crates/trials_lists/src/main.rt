@@ -1,4 +1,4 @@
-// Awkward clash texts from standard input, and what reading answers to each; each accepted list, and some matrices, written again.
+// Awkward clash texts from standard input, and what both readings answer to each; each accepted list, and some matrices, written again.
 // Before each text stands a line "R B": how many rows are lent, and how many bytes the text has. What this writes is held to the file
 // stdout, which tests/awkward_texts.py makes from the papers alone.
 use libc::STDIN_FILENO;
@@ -123,8 +123,8 @@ fn put_lines(text: &[u8]) {
 }
 
 // Reads one text into the lent rows, all 7; of a text that is refused each line is shown where it lies.
-fn trial(text: &[u8], lent: &mut [u64]) {
-    match lists::read_list(text, lent) {
+fn trial(text: &[u8], lent: &mut [u64], plain: bool) {
+    match lists::read_list(text, lent, plain) {
         Reading::Refused(why, line, column) => {
             trials::put_refusal(lists::refusal_of(why));
             trials::put(b" line ");
@@ -139,6 +139,25 @@ fn trial(text: &[u8], lent: &mut [u64]) {
             put_list(lent, n);
         }
     }
+}
+
+fn one_reading(text: &[u8], room: usize, plain: bool)
+    requires { ⌜ room ≤ 70 ⌝ }
+{
+    let mut lent = sevens();
+    trial(text, &mut lent[..room], plain);
+}
+
+// Text k by both readings: the plain one, and the one that allows repeats.
+fn both_readings(k: u64, text: &[u8], room: usize)
+    requires { ⌜ room ≤ 70 ⌝ }
+{
+    trials::put_word(k);
+    trials::put(b" read ");
+    one_reading(text, room, true);
+    trials::put_word(k);
+    trials::put(b" repeats ");
+    one_reading(text, room, false);
 }
 
 // The text after the line "R B" that starts at `at`.
@@ -175,10 +194,7 @@ fn texts(file: &[u8]) {
                 return;
             }
             Next::Text(room, start, end) => {
-                trials::put_word(k);
-                trials::put(b" read ");
-                let mut lent = sevens();
-                trial(&file[start..end], &mut lent[..room]);
+                both_readings(k, &file[start..end], room);
                 at = end;
                 k = std::num::wrapping_add_u64(k, 1);
             }

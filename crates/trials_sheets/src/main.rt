@@ -1,4 +1,5 @@
-// Awkward pairs of a clash text and a sheet from standard input, and what checking answers to each, with the line that the preview shows.
+// Awkward pairs of a clash text and a sheet from standard input, and what checking answers to each by both readings, with the line that the preview
+// shows.
 // Before each pair stand a line "L S", how many bytes the list and the sheet have, and a line with how many colour bytes are lent. After
 // them, the sheets of some colour bytes. What this writes is held to the file stdout, which tests/awkward_sheets.py makes from document
 // 01 alone.
@@ -131,17 +132,36 @@ fn put_shown(part: &[u8]) {
 }
 
 // Checks one pair with the lent colour bytes, all 255; what is accepted is written again.
-fn trial<'a>(list: &'a [u8], sheet: &'a [u8], colours: &mut [u8]) {
+fn trial<'a>(list: &'a [u8], sheet: &'a [u8], colours: &mut [u8], plain: bool) {
     let room = colours.len();
-    let answer = sheets::check_sheet(list, sheet, colours);
+    let answer = sheets::check_sheet(list, sheet, colours, plain);
     let m = sheets::numbers_of(answer);
     put_checked(m);
     put_colours(colours);
-    put_shown(sheets::fault_line(list, sheet, room));
+    put_shown(sheets::fault_line(list, sheet, room, plain));
     if m.number == 0 {
         let n = count_set(colours);
         written(&colours[..n]);
     }
+}
+
+fn one_reading<'a>(list: &'a [u8], sheet: &'a [u8], room: usize, plain: bool)
+    requires { ⌜ room ≤ 70 ⌝ }
+{
+    let mut lent = unset();
+    trial(list, sheet, &mut lent[..room], plain);
+}
+
+// Pair k by both readings of the list: the plain one, and the one that allows repeats.
+fn both_readings<'a>(k: u64, list: &'a [u8], sheet: &'a [u8], room: usize)
+    requires { ⌜ room ≤ 70 ⌝ }
+{
+    trials::put_word(k);
+    trials::put(b" ");
+    one_reading(list, sheet, room, true);
+    trials::put_word(k);
+    trials::put(b" repeats ");
+    one_reading(list, sheet, room, false);
 }
 
 // The pair after the line with its colour bytes, which starts at `at`: so many bytes of a list, then so many of a sheet.
@@ -197,10 +217,7 @@ fn pairs(file: &[u8]) {
                 return;
             }
             Next::Both(room, start, middle, end) => {
-                trials::put_word(k);
-                trials::put(b" ");
-                let mut lent = unset();
-                trial(&file[start..middle], &file[middle..end], &mut lent[..room]);
+                both_readings(k, &file[start..middle], &file[middle..end], room);
                 at = end;
                 k = std::num::wrapping_add_u64(k, 1);
             }

@@ -21,10 +21,10 @@ same-length : tie.Need-same-length
 same-length c = search needs
 
 returns : tie.Need-returns
-returns c s h =
+returns c plain s h =
     let f = c .before .before in
     let r = f .before .before in
-    subst (λ (x : List ℕ). Writes x (r .before .before .before .args .out .now) (f .fit .result) (f .fit .last .1 .0)) (sym (printed-long s h))
+    subst (λ (x : List ℕ). Writes x (r .before .before .before .args .out .now) (f .fit .result) (f .fit .last .1 .0)) (sym (printed-long plain s h))
     (f .fit .ensures _ (subst (λ (n : ℕ). IsText (refusedText n 0 0) (r .refused .result)) (r .before .number .ensures) (r .refused .ensures)))
 
 pub answer-long-spec : {M : Type 1} → statement M

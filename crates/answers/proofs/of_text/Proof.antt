@@ -35,7 +35,7 @@ line-requires c κs = search needs
 few : (c : tie.After-known-told) → c .before .answer .given .0 .0 ≤ 64
 few c =
     let g = c .before .before .before .before in
-    list-few (g .before .before .args .text .now) (g .gather .result) (g .gather .ensures) _ (c .before .answer .given .1)
+    list-few (g .before .before .args .plain) (g .before .before .args .text .now) (g .gather .result) (g .gather .ensures) _ (c .before .answer .given .1)
 
 rows-long : (c : tie.After-known-told) → length (c .before .before .before .before .gather .result .rows) ≡ 64
 rows-long c = search needs
@@ -49,13 +49,15 @@ slice-aggregate-of-rows c = simp (length-take) (omega (arith, few (c .before), r
 of-rows-requires : tie.Need-of-rows-requires
 of-rows-requires c κs =
     let g = c .before .before .before .before .before in
-    list-sound (g .before .before .args .text .now) (g .gather .result) (g .gather .ensures) _ (c .before .before .answer .given .1)
+    list-sound (g .before .before .args .plain) (g .before .before .args .text .now) (g .gather .result) (g .gather .ensures) _
+    (c .before .before .answer .given .1)
 
 returns : tie.Need-returns
 returns c =
     let g = c .before .before .before .before .before .before in
     subst (λ (x : List ℕ). IsText x (c .of-rows .result))
-    (sym (printed-read (g .before .before .args .text .now) (g .gather .result) (g .gather .ensures) _ (c .before .before .before .answer .given .1))) (c .of-rows .ensures)
+    (sym (printed-read (g .before .before .args .plain) (g .before .before .args .text .now) (g .gather .result) (g .gather .ensures) _
+    (c .before .before .before .answer .given .1))) (c .of-rows .ensures)
 
 column-requires : tie.Need-column-requires
 column-requires c κs = search needs
@@ -70,8 +72,8 @@ refused-requires c κs =
     let s = g .before .before .args .text .now in
     let e = ap (λ x. x .answer) (sym (g .gather .ensures)) ∙ a .answer2 .given .1 in (
       omega (arith, n .number .ensures, number-small (r .refusal-of .result)),
-      omega (arith, l .line .ensures, line-small s 64 _ _ _ (r .refusal-of .result) e),
-      omega (arith, c .column .ensures, column-small s 64 _ _ _ (r .refusal-of .result) e),
+      omega (arith, l .line .ensures, line-small (g .before .before .args .plain) s 64 _ _ _ (r .refusal-of .result) e),
+      omega (arith, c .column .ensures, column-small (g .before .before .args .plain) s 64 _ _ _ (r .refusal-of .result) e),
     )
 
 returns-2 : tie.Need-returns-2
@@ -87,7 +89,8 @@ returns-2 c =
     let q = r .refusal-of .result in
     let t = c .refused .result in
     subst (λ (x : List ℕ). IsText x t)
-    (sym (printed-numbers (g .before .before .args .text .now) (g .gather .result) (g .gather .ensures) _ _ _ (a .answer2 .given .1)))
+    (sym (printed-numbers (g .before .before .args .plain) (g .before .before .args .text .now) (g .gather .result) (g .gather .ensures) _ _ _
+    (a .answer2 .given .1)))
     (subst (λ (q : Refusal). IsText (refusedText (numberOf q) (told q k .line) (toldAt q 0 j .column)) t) (r .refusal-of .ensures)
     (subst (λ (m : ℕ). IsText (refusedText (numberOf q) (told q k .line) m) t) (d .column .ensures)
     (subst (λ (m : ℕ). IsText (refusedText (numberOf q) m (d .column .result)) t) (l .line .ensures)

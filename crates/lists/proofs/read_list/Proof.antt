@@ -29,7 +29,8 @@ slice-aggregate-copy-rows c = search needs
 copy-rows-requires : tie.Need-copy-rows-requires
 copy-rows-requires c κs =
     let a = c .before .before .before .before .before .before .before .args in
-    let b = stored-fits mostEntries longestText (a .text .now) (a .rows .now) _ (c .before .before .before .before .gather .ensures) _ (counted (c .before .before .before) .0) in
+    let b = stored-fits (a .plain) mostEntries longestText (a .text .now) (a .rows .now) _ (c .before .before .before .before .gather .ensures) _
+    (counted (c .before .before .before) .0) in
     let z : length (c .before .before .before .before .gather .result .rows) ≡ 64 = search needs in
     (omega arith, b .1)
 
@@ -39,7 +40,8 @@ same-length c = search needs
 returns : tie.Need-returns
 returns c =
     let a = c .before .before .before .before .before .before .before .before .before .before .args in
-    stored-promise mostEntries longestText (a .text .now) (a .rows .now) _ (c .before .before .before .before .before .before .before .gather .ensures) _
+    stored-promise (a .plain) mostEntries longestText (a .text .now) (a .rows .now) _
+    (c .before .before .before .before .before .before .before .gather .ensures) _
     (counted (c .before .before .before .before .before .before) .0) _ _ (counted (c .before .before .before .before .before .before) .1)
     (c .before .before .copy-rows .ensures)
 

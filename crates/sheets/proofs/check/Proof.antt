@@ -25,33 +25,31 @@ without-requires-2 c κs = search needs
 
 returns : tie.Need-returns
 returns c =
-    c .without2 .ensures ∙ sym (check-few mostEntries longestText (c .before .before .before .before .before .before .before .before .args .list .now)
-    (c .before .before .before .before .before .before .before .before .args .sheet .now) (c .before .before .before .before .before .before .before .before .args .room)
-    _ (c .before .before .before .before .before .gather .ensures) _ (c .before .before .before .answer2 .given .1) (c .before .if1 .taken))
+    let a = c .before .before .before .before .before .before .before .before .args in
+    c .without2 .ensures ∙ sym (check-few (a .plain) mostEntries longestText (a .list .now) (a .sheet .now) (a .room) _
+    (c .before .before .before .before .before .gather .ensures) _ (c .before .before .before .answer2 .given .1) (c .before .if1 .taken))
 
 slice-aggregate-check-lines : tie.Need-slice-aggregate-check-lines
 slice-aggregate-check-lines c = search needs
 
 check-lines-requires : tie.Need-check-lines-requires
 check-lines-requires c κs =
-    let h = read-small mostEntries longestText (c .before .before .before .before .before .before .before .before .before .args .list .now)
-    (c .before .before .before .before .before .before .before .before .before .args .sheet .now)
-    (c .before .before .before .before .before .before .before .before .before .args .room) _ (c .before .before .before .before .before .before .gather .ensures) _
-    (c .before .before .before .before .answer2 .given .1) in
+    let a = c .before .before .before .before .before .before .before .before .before .args in
+    let h = read-small (a .plain) mostEntries longestText (a .list .now) (a .sheet .now) (a .room) _
+    (c .before .before .before .before .before .before .gather .ensures) _ (c .before .before .before .before .answer2 .given .1) in
     let z : length (c .before .before .before .before .before .before .gather .result .rows) ≡ 64 = search needs in
     (h, omega arith)
 
 returns-2 : tie.Need-returns-2
 returns-2 c =
-    c .without .ensures ∙ sym (check-unread mostEntries longestText (c .before .before .before .before .before .before .before .args .list .now)
-    (c .before .before .before .before .before .before .before .args .sheet .now) (c .before .before .before .before .before .before .before .args .room) _
+    let a = c .before .before .before .before .before .before .before .args in
+    c .without .ensures ∙ sym (check-unread (a .plain) mostEntries longestText (a .list .now) (a .sheet .now) (a .room) _
     (c .before .before .before .before .gather .ensures) _ _ _ (c .before .before .answer .given .1))
 
 returns-3 : tie.Need-returns-3
 returns-3 c =
-    c .check-lines .ensures ∙ sym (check-read mostEntries longestText (c .before .before .before .before .before .before .before .before .before .before .args .list .now)
-    (c .before .before .before .before .before .before .before .before .before .before .args .sheet .now)
-    (c .before .before .before .before .before .before .before .before .before .before .args .room) _
+    let a = c .before .before .before .before .before .before .before .before .before .before .args in
+    c .check-lines .ensures ∙ sym (check-read (a .plain) mostEntries longestText (a .list .now) (a .sheet .now) (a .room) _
     (c .before .before .before .before .before .before .before .gather .ensures) _ (c .before .before .before .before .before .answer2 .given .1)
     (c .before .before .before .if1 .left))
 

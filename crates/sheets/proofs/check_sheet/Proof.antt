@@ -19,8 +19,9 @@ copy-bytes-requires : tie.Need-copy-bytes-requires
 copy-bytes-requires c κs =
     let a = c .before .before .before .before .before .before .before .args in
     let o = c .before .before .before .check in
-    let f : Fits mostEntries longestText (length (a .colours .now)) (o .result) = subst (Fits mostEntries longestText (length (a .colours .now))) (sym (o .ensures))
-    (check-fits mostEntries longestText (a .list .now) (a .sheet .now) (length (a .colours .now))) in
+    let f : Fits mostEntries longestText (length (a .colours .now)) (o .result) = subst (Fits mostEntries longestText (length (a .colours .now)))
+    (sym (o .ensures))
+    (check-fits (a .plain) mostEntries longestText (a .list .now) (a .sheet .now) (length (a .colours .now))) in
     let z : length (o .result .colours) ≡ 64 = search needs in
     (omega arith, f .fits)
 
@@ -29,8 +30,8 @@ same-length c = search needs
 
 returns : tie.Need-returns
 returns c =
-    check-handed mostEntries longestText (c .before .before .before .before .before .before .before .before .before .before .args .list .now)
-    (c .before .before .before .before .before .before .before .before .before .before .args .sheet .now)
+    let a = c .before .before .before .before .before .before .before .before .before .before .args in
+    check-handed (a .plain) mostEntries longestText (a .list .now) (a .sheet .now)
     (c .before .before .before .before .before .before .before .before .before .before .args .colours .now) _
     (c .before .before .before .before .before .before .check .result) (c .before .before .before .before .before .before .check .ensures)
     (c .before .before .copy-bytes .ensures)

@@ -17,7 +17,7 @@ shown-requires c κs = search needs
 returns : tie.Need-returns
 returns c =
     let a = c .before .before .before .before .before .before .before .args in
-    preview-list mostEntries longestText (a .list) (a .sheet) (a .room) _ _ (c .shown .result) (c .before .before .before .before .check .ensures)
+    preview-list (a .plain) mostEntries longestText (a .list) (a .sheet) (a .room) _ _ (c .shown .result) (c .before .before .before .before .check .ensures)
     (c .before .before .before .numbers-of .ensures) (c .before .if1 .taken) (c .shown .ensures)
 
 shown-requires-2 : tie.Need-shown-requires-2
@@ -26,7 +26,7 @@ shown-requires-2 c κs = search needs
 returns-2 : tie.Need-returns-2
 returns-2 c =
     let a = c .before .before .before .before .before .before .before .args in
-    preview-sheet mostEntries longestText (a .list) (a .sheet) (a .room) _ _ (c .shown2 .result) (c .before .before .before .before .check .ensures)
+    preview-sheet (a .plain) mostEntries longestText (a .list) (a .sheet) (a .room) _ _ (c .shown2 .result) (c .before .before .before .before .check .ensures)
     (c .before .before .before .numbers-of .ensures) (c .before .if1 .left) (c .shown2 .ensures)
 
 pub fault-line-spec : {M : Type 1} → statement M

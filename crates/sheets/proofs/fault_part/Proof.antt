@@ -17,7 +17,8 @@ part-at-requires c κs = search needs
 returns : tie.Need-returns
 returns c =
     let a = c .before .before .before .before .before .before .before .args in
-    place-list mostEntries longestText (a .list .now) (a .sheet .now) (a .room) _ _ (c .part-at .result) (c .before .before .before .before .check .ensures)
+    place-list (a .plain) mostEntries longestText (a .list .now) (a .sheet .now) (a .room) _ _ (c .part-at .result)
+    (c .before .before .before .before .check .ensures)
     (c .before .before .before .numbers-of .ensures) (c .before .if1 .taken) (c .part-at .ensures)
 
 part-at-requires-2 : tie.Need-part-at-requires-2
@@ -26,7 +27,8 @@ part-at-requires-2 c κs = search needs
 returns-2 : tie.Need-returns-2
 returns-2 c =
     let a = c .before .before .before .before .before .before .before .args in
-    place-sheet mostEntries longestText (a .list .now) (a .sheet .now) (a .room) _ _ (c .part-at2 .result) (c .before .before .before .before .check .ensures)
+    place-sheet (a .plain) mostEntries longestText (a .list .now) (a .sheet .now) (a .room) _ _ (c .part-at2 .result)
+    (c .before .before .before .before .check .ensures)
     (c .before .before .before .numbers-of .ensures) (c .before .if1 .left) (c .part-at2 .ensures)
 
 pub fault-part-spec : {M : Type 1} → statement M

@@ -1,6 +1,5 @@
 -- `trials_lists::texts` is safe and ends: each text starts after the place where its line was looked for. Assumes nothing.
-use mathlib.Core.Path.{sym, subst}
-use lib.Seq.{length-take-le}
+use mathlib.Core.Path.{subst}
 use Prim.Native.Nat.{_≤_, _-_}
 use Rattle.trials_lists.specs.Case.{Within}
 use Rattle.trials_lists.specs.declared.Next.the-variants.{Text}
@@ -11,10 +10,10 @@ use Rattle.trials_lists.proofs.texts.Statement.{statement}
 use Rattle.trials_lists.proofs.texts.Tie as tie
 
 abbrev Inv-loop : tie.InvT-loop
-Inv-loop file at₀ k₀ t8 t9 at k = at ≤ length file
+Inv-loop file at₀ k₀ t7 at k = at ≤ length file
 
 abbrev μ-loop : tie.MeasureT-loop
-μ-loop file at₀ k₀ t8 t9 at k = length file - at
+μ-loop file at₀ k₀ t7 at k = length file - at
 
 known : (c : tie.After-known-told Inv-loop μ-loop)
     → Within (c .before .before .before .before .before .loop .at) (length (c .before .before .before .before .before .before .before .args .file .now))
@@ -44,47 +43,26 @@ returns c = search needs
 enum-known-room : tie.Need-enum-known-room Inv-loop μ-loop
 enum-known-room c = search needs
 
-put-word-requires : tie.Need-put-word-requires Inv-loop μ-loop
-put-word-requires c κs = search needs
+sub-both-readings : tie.Need-sub-both-readings Inv-loop μ-loop
+sub-both-readings c = let k = known c in omega arith
 
-slice-aggregate-put-2 : tie.Need-slice-aggregate-put-2 Inv-loop μ-loop
-slice-aggregate-put-2 c = search needs
+part-both-readings-start : tie.Need-part-both-readings-start Inv-loop μ-loop
+part-both-readings-start c = let k = known c in omega arith
 
-put-requires-2 : tie.Need-put-requires-2 Inv-loop μ-loop
-put-requires-2 c κs = search needs
+part-both-readings-end : tie.Need-part-both-readings-end Inv-loop μ-loop
+part-both-readings-end c = let k = known c in omega arith
 
-sevens-requires : tie.Need-sevens-requires Inv-loop μ-loop
-sevens-requires c κs = search needs
-
-sub-trial : tie.Need-sub-trial Inv-loop μ-loop
-sub-trial c = let k = known (c .before .before .before .before) in omega arith
-
-part-trial-start : tie.Need-part-trial-start Inv-loop μ-loop
-part-trial-start c = let k = known (c .before .before .before .before) in omega arith
-
-part-trial-end : tie.Need-part-trial-end Inv-loop μ-loop
-part-trial-end c = let k = known (c .before .before .before .before) in omega arith
-
-array-borrow-prefix-lent : tie.Need-array-borrow-prefix-lent Inv-loop μ-loop
-array-borrow-prefix-lent c = let k = known (c .before .before .before .before .before) in omega arith
-
-slice-aggregate-trial : tie.Need-slice-aggregate-trial Inv-loop μ-loop
-slice-aggregate-trial c =
-    let k = known (c .before .before .before .before .before .before) in
-    sym (length-take-le (c .before .before .before .before .before .before .before .room .given .0 .0) (c .before .before .sevens .result)
-    (omega (arith, c .before .before .sevens .ensures)))
-
-trial-requires : tie.Need-trial-requires Inv-loop μ-loop
-trial-requires c κs = search needs
+both-readings-requires : tie.Need-both-readings-requires Inv-loop μ-loop
+both-readings-requires c κs = known (c .before) .0
 
 wrapping-add-u64-requires : tie.Need-wrapping-add-u64-requires Inv-loop μ-loop
 wrapping-add-u64-requires c κs = search needs
 
 loop-less : tie.Need-loop-less Inv-loop μ-loop
-loop-less c = let k = known (c .before .before .before .before .before .before .before .before .before) in omega arith
+loop-less c = let k = known (c .before .before .before) in omega arith
 
 loop-again : tie.Need-loop-again Inv-loop μ-loop
-loop-again c = let k = known (c .before .before .before .before .before .before .before .before .before) in omega arith
+loop-again c = let k = known (c .before .before .before) in omega arith
 
 returns-2 : tie.Need-returns-2 Inv-loop μ-loop
 returns-2 c = search needs
@@ -102,16 +80,10 @@ texts-spec =
     put-requires
     returns
     enum-known-room
-    put-word-requires
-    slice-aggregate-put-2
-    put-requires-2
-    sevens-requires
-    sub-trial
-    part-trial-start
-    part-trial-end
-    array-borrow-prefix-lent
-    slice-aggregate-trial
-    trial-requires
+    sub-both-readings
+    part-both-readings-start
+    part-both-readings-end
+    both-readings-requires
     wrapping-add-u64-requires
     loop-less
     loop-again

@@ -11,7 +11,8 @@ use Rattle.trials_lists.proofs.trial.Tie as tie
 fits : (c : tie.After-known-told2) → c .before .n .given .0 .0 ≤ length (c .before .before .before .before .before .before .before .before .before .args .lent .now)
 fits c =
     let a = c .before .before .before .before .before .before .before .before .before .args in
-    subst (Bounded (length (a .lent .now))) (sym (c .before .before .before .before .before .read-list .ensures .answer) ∙ c .before .n .given .1) (read-fits (a .text .now) (length (a .lent .now)))
+    subst (Bounded (length (a .lent .now))) (sym (c .before .before .before .before .before .read-list .ensures .answer) ∙ c .before .n .given .1)
+    (read-fits (a .plain) (a .text .now) (length (a .lent .now)))
 
 read-list-requires : tie.Need-read-list-requires
 read-list-requires c κs = search needs

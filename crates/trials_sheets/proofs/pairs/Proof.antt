@@ -1,9 +1,8 @@
 -- `trials_sheets::pairs` is safe and ends. Assumes nothing.
 use borrow.Author.Needs.{needs}
 use Prim.Native.Nat.{_≤_, _-_}
-use mathlib.Core.Path.{sym, subst}
+use mathlib.Core.Path.{subst}
 use lib.ListN.{length}
-use lib.Seq.{length-take-le}
 use native.Mathlib.Omega.{arith}
 use Rattle.trials_sheets.specs.Case.{Within}
 use Rattle.trials_sheets.specs.declared.Next.the-variants.{Both}
@@ -11,10 +10,10 @@ use Rattle.trials_sheets.proofs.pairs.Statement.{statement}
 use Rattle.trials_sheets.proofs.pairs.Tie as tie
 
 abbrev Inv-loop : tie.InvT-loop
-Inv-loop file at₀ k₀ t9 t10 at k = at ≤ length file
+Inv-loop file at₀ k₀ t8 at k = at ≤ length file
 
 abbrev μ-loop : tie.MeasureT-loop
-μ-loop file at₀ k₀ t9 t10 at k = length file - at
+μ-loop file at₀ k₀ t8 at k = length file - at
 
 known : (c : tie.After-known-told Inv-loop μ-loop) →
     let r = c .before .room .given .0 in
@@ -44,56 +43,35 @@ returns c = search needs
 enum-known-room : tie.Need-enum-known-room Inv-loop μ-loop
 enum-known-room c = search needs
 
-put-word-requires : tie.Need-put-word-requires Inv-loop μ-loop
-put-word-requires c κs = search needs
+sub-both-readings : tie.Need-sub-both-readings Inv-loop μ-loop
+sub-both-readings c = let k = known c in omega arith
 
-slice-aggregate-put-2 : tie.Need-slice-aggregate-put-2 Inv-loop μ-loop
-slice-aggregate-put-2 c = search needs
+part-both-readings-start : tie.Need-part-both-readings-start Inv-loop μ-loop
+part-both-readings-start c = let k = known c in omega arith
 
-put-requires-2 : tie.Need-put-requires-2 Inv-loop μ-loop
-put-requires-2 c κs = search needs
+part-both-readings-end : tie.Need-part-both-readings-end Inv-loop μ-loop
+part-both-readings-end c = let k = known c in omega arith
 
-unset-requires : tie.Need-unset-requires Inv-loop μ-loop
-unset-requires c κs = search needs
+sub-both-readings-2 : tie.Need-sub-both-readings-2 Inv-loop μ-loop
+sub-both-readings-2 c = let k = known (c .before) in omega arith
 
-sub-trial : tie.Need-sub-trial Inv-loop μ-loop
-sub-trial c = let k = known (c .before .before .before .before) in omega arith
+part-both-readings-start-2 : tie.Need-part-both-readings-start-2 Inv-loop μ-loop
+part-both-readings-start-2 c = let k = known (c .before) in omega arith
 
-part-trial-start : tie.Need-part-trial-start Inv-loop μ-loop
-part-trial-start c = let k = known (c .before .before .before .before) in omega arith
+part-both-readings-end-2 : tie.Need-part-both-readings-end-2 Inv-loop μ-loop
+part-both-readings-end-2 c = let k = known (c .before) in omega arith
 
-part-trial-end : tie.Need-part-trial-end Inv-loop μ-loop
-part-trial-end c = let k = known (c .before .before .before .before) in omega arith
-
-sub-trial-2 : tie.Need-sub-trial-2 Inv-loop μ-loop
-sub-trial-2 c = let k = known (c .before .before .before .before .before) in omega arith
-
-part-trial-start-2 : tie.Need-part-trial-start-2 Inv-loop μ-loop
-part-trial-start-2 c = let k = known (c .before .before .before .before .before) in omega arith
-
-part-trial-end-2 : tie.Need-part-trial-end-2 Inv-loop μ-loop
-part-trial-end-2 c = let k = known (c .before .before .before .before .before) in omega arith
-
-array-borrow-prefix-lent : tie.Need-array-borrow-prefix-lent Inv-loop μ-loop
-array-borrow-prefix-lent c = let k = known (c .before .before .before .before .before .before) in omega arith
-
-slice-aggregate-trial : tie.Need-slice-aggregate-trial Inv-loop μ-loop
-slice-aggregate-trial c =
-    let k = known (c .before .before .before .before .before .before .before) in
-    sym (length-take-le (c .before .before .before .before .before .before .before .before .room .given .0 .0) (c .before .before .before .unset .result)
-    (omega (arith, c .before .before .before .unset .ensures)))
-
-trial-requires : tie.Need-trial-requires Inv-loop μ-loop
-trial-requires c κs = search needs
+both-readings-requires : tie.Need-both-readings-requires Inv-loop μ-loop
+both-readings-requires c κs = known (c .before .before) .0
 
 wrapping-add-u64-requires : tie.Need-wrapping-add-u64-requires Inv-loop μ-loop
 wrapping-add-u64-requires c κs = search needs
 
 loop-less : tie.Need-loop-less Inv-loop μ-loop
-loop-less c = let k = known (c .before .before .before .before .before .before .before .before .before .before) in omega arith
+loop-less c = let k = known (c .before .before .before .before) in omega arith
 
 loop-again : tie.Need-loop-again Inv-loop μ-loop
-loop-again c = let k = known (c .before .before .before .before .before .before .before .before .before .before) in omega arith
+loop-again c = let k = known (c .before .before .before .before) in omega arith
 
 returns-2 : tie.Need-returns-2 Inv-loop μ-loop
 returns-2 c = search needs
@@ -111,19 +89,13 @@ pairs-spec =
     put-requires
     returns
     enum-known-room
-    put-word-requires
-    slice-aggregate-put-2
-    put-requires-2
-    unset-requires
-    sub-trial
-    part-trial-start
-    part-trial-end
-    sub-trial-2
-    part-trial-start-2
-    part-trial-end-2
-    array-borrow-prefix-lent
-    slice-aggregate-trial
-    trial-requires
+    sub-both-readings
+    part-both-readings-start
+    part-both-readings-end
+    sub-both-readings-2
+    part-both-readings-start-2
+    part-both-readings-end-2
+    both-readings-requires
     wrapping-add-u64-requires
     loop-less
     loop-again
