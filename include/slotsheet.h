@@ -8,9 +8,13 @@
    Answers. An answer whose `refusal` is 0 is accepted. Every number that a comment here does not name is 0. Nothing lent is written but what is
    said here, and a refused call writes nothing. No call keeps a pointer, prints, allocates, or fails otherwise than by its refusal.
 
+   Two readings. A clash text names each edge once: one that stands a second time, either way round, is refused as 20, since a block pasted twice
+   would slip through otherwise. The calls whose names end in _repeats allow it, for lists whose exporter names each clash both ways; they are the same
+   in everything else. What slotsheet_write_list writes is read alike by both.
+
    What is lent. A lent slice is a pointer and a length in elements (not in bytes), and the pointer is aligned as its type wants. Where the length
    is 0 the pointer may be NULL or any other, so an empty std::vector is passed as it is; elsewhere it is never NULL. What a call writes (`colours`
-   of a walk or a check, `rows` of slotsheet_read_list, `out` of the writers) must not overlap anything else that is lent to that call. What it
+   of a walk or a check, `rows` of a reading, `out` of the writers) must not overlap anything else that is lent to that call. What it
    only reads may overlap: the list and the sheet of a check may be one text.
 
    Threads. Calls share nothing, so any number of threads may call at once, as long as none writes what another is lent. A call needs less than
@@ -29,7 +33,7 @@ extern "C" {
 #endif
 
 /* tools/bindings writes from here on, from bindings/interface.txt */
-#define SLOTSHEET_VERSION "2.1.0"
+#define SLOTSHEET_VERSION "3.0.0"
 
 #define SLOTSHEET_ENTRIES 64          /* the most entries of a list */
 #define SLOTSHEET_BYTES 65536         /* the most bytes of a text that is read */
@@ -58,6 +62,7 @@ enum slotsheet_refusal {
     SLOTSHEET_ROOM = 17,        /* fewer lent rows than n: line of p */
     SLOTSHEET_LONG = 18,        /* a text over 65,536 bytes */
     SLOTSHEET_FULL = 19,        /* output buffer too small for the whole text */
+    SLOTSHEET_REPEAT = 20,      /* an edge that stands a second time, either way round, where repeats are not allowed: line of the second */
     SLOTSHEET_DIGIT = 21,       /* where a number must start and no digit stands, or a digit after a leading zero or a seventh digit: line and column */
     SLOTSHEET_SPACE = 22,       /* another byte, or a stop, where a space or the line's end could have followed a word or a number: line and column */
     SLOTSHEET_UNENDED = 23,     /* last line unended though otherwise whole: line, and column one past its end */
@@ -155,8 +160,9 @@ struct slotsheet_walk slotsheet_fewest(const uint64_t *rows, size_t rows_length,
 struct slotsheet_walk slotsheet_plain(const uint64_t *rows, size_t rows_length, uint8_t *colours, size_t colours_length, uint64_t budget);
 
 /* Reads a clash text, whose lines are "p edge N M", "e U V" and comments, all those that begin with c: 18, then the first faulty line by 10, 21, 22
-   or 23, then 11, 12, 13, 17, 14, 15, then at the end 11, 16. Accepted, writes the first n rows; rows from n on stay. */
+   or 23, then 11, 12, 13, 17, 14, 15, 20, then at the end 11, 16. Accepted, writes the first n rows; rows from n on stay. */
 struct slotsheet_reading slotsheet_read_list(const uint8_t *text, size_t text_length, uint64_t *rows, size_t rows_length);
+struct slotsheet_reading slotsheet_read_list_repeats(const uint8_t *text, size_t text_length, uint64_t *rows, size_t rows_length);
 
 /* Writes a list's clash text: 1 to 4, 19. Accepted, writes the first `length` bytes; those after stay. */
 struct slotsheet_writing slotsheet_write_list(const uint64_t *rows, size_t rows_length, uint8_t *out, size_t out_length);
@@ -168,16 +174,21 @@ struct slotsheet_writing slotsheet_write_sheet(const uint8_t *colours, size_t co
    number to the first n colour bytes; those after stay. */
 struct slotsheet_checking slotsheet_check_sheet(const uint8_t *list, size_t list_length, const uint8_t *sheet, size_t sheet_length,
                                                 uint8_t *colours, size_t colours_length);
+struct slotsheet_checking slotsheet_check_sheet_repeats(const uint8_t *list, size_t list_length, const uint8_t *sheet, size_t sheet_length,
+                                                        uint8_t *colours, size_t colours_length);
 
 /* Checks again, for a colour buffer of `room` bytes, and says where the line at fault lies: the line without its line feed. An empty part, at
    that text's end for a fault at an end, and at its start for 18, or 5, which is the sheet's. SLOTSHEET_NONE where the check accepts. Writes
    nothing. */
 struct slotsheet_part slotsheet_fault_line(const uint8_t *list, size_t list_length, const uint8_t *sheet, size_t sheet_length, size_t room);
+struct slotsheet_part slotsheet_fault_line_repeats(const uint8_t *list, size_t list_length, const uint8_t *sheet, size_t sheet_length,
+                                                   size_t room);
 
-/* Writes the very bytes that the program slotsheet prints for a clash text: the sheet of its fewest groups, by a walk of at most SLOTSHEET_NODES
-   nodes, or "refused R line L" (of 10, 21, 22 and 23 "refused R line L column C") and a line feed: 19 where they do not all fit;
-   SLOTSHEET_SHEET_BYTES are enough. Accepted, writes the first `length` bytes; those after stay. */
+/* Writes the very bytes that the program slotsheet, or "slotsheet --repeats", prints for a clash text: the sheet of its fewest groups, by a walk of
+   at most SLOTSHEET_NODES nodes, or "refused R line L" (of 10, 21, 22 and 23 "refused R line L column C") and a line feed: 19 where they do not all
+   fit; SLOTSHEET_SHEET_BYTES are enough. Accepted, writes the first `length` bytes; those after stay. */
 struct slotsheet_writing slotsheet_answer(const uint8_t *text, size_t text_length, uint8_t *out, size_t out_length);
+struct slotsheet_writing slotsheet_answer_repeats(const uint8_t *text, size_t text_length, uint8_t *out, size_t out_length);
 
 #ifdef __cplusplus
 }

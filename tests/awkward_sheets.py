@@ -78,9 +78,9 @@ def check_sheet(sheet, n, rows):
     return 0, 0, groups, colours
 
 
-def check(text, sheet, room):
-    """(number, line, column, which text, k, colours) of a pair."""
-    number, line, column, n, rows = read(text, 64)
+def check(text, sheet, room, repeats):
+    """(number, line, column, which text, k, colours) of a pair. `repeats` allows an edge of the list to stand a second time."""
+    number, line, column, n, rows = read(text, 64, repeats)
     if number:
         return number, line, column, 1, 0, []
     if room < n:
@@ -119,6 +119,7 @@ def listed(n, *edges):
 SHEET = b"groups 3\nsize 2\n1\n3\nsize 2\n2\n4\nsize 1\n5\n"
 PATH = listed(3, (1, 2), (2, 3))  # 2 clashes with both others
 PAIR = b"groups 2\nsize 2\n1\n3\nsize 1\n2\n"
+BOTH = listed(3, (1, 2), (2, 1), (2, 3), (3, 2))  # the same, each clash both ways
 FREE = listed(4)  # no clashes
 EMPTY = listed(0)
 
@@ -135,6 +136,9 @@ def pairs():
         (b"", SHEET, 5), (b"x\n", b"", 0), (FIVE[:-1], SHEET, 5), (b"e 1 2\n", SHEET, 5), (FIVE + b"p edge 5 5\n", SHEET, 5), (b"p edge 65 0\n", SHEET, 70),
         (b"p edge 3 1\ne 1 4\n", PAIR, 3), (b"c y\np edge 3 1\ne 2 2\n", PAIR, 0), (b"p edge 3 2\ne 1 2\n", b"groups 0\n", 0), (b"c x\nc y\n", PAIR, 3),
         (padded(FIVE, 65537), SHEET, 5),
+        # 20 of the list; where repeats are allowed, the sheet's own
+        (BOTH, PAIR, 3), (BOTH, b"groups 1\nsize 3\n1\n2\n3\n", 3), (BOTH, PAIR, 2), (BOTH, b"", 3), (listed(3, (1, 2), (1, 2)), PAIR, 3), (BOTH + b"e 4 4\n", PAIR, 3),
+        (b"p edge 3 1\ne 3 2\ne 2 3\n", PAIR, 3),
         # 5: too few colour bytes, before anything of the sheet
         (FIVE, SHEET, 4), (FIVE, b"", 0), (FIVE, b"x" * 65537, 4), (listed(1), b"groups 0\n", 0), (listed(64), b"size", 63),
         # 18, and just not
@@ -204,14 +208,15 @@ def case_input():
 def output():
     out = []
     for at, (text, sheet, room) in enumerate(pairs(), 1):
-        number, line, column, which, k, colours = check(text, sheet, room)
-        lent = [b"%d" % group for group in colours] + [b"-"] * (room - len(colours))
-        part = shown(text if which == 1 else sheet, line)
-        out.append(b"%d number %d line %d column %d text %d groups %d colours" % (at, number, line, column, which, k))
-        out.append(b"".join(b" " + byte for byte in lent))
-        out.append(b" shown %d [" % len(part) + part + b"]\n")
-        if number == 0:
-            out.append(written(colours))
+        for name, repeats in ((b"", False), (b"repeats ", True)):
+            number, line, column, which, k, colours = check(text, sheet, room, repeats)
+            lent = [b"%d" % group for group in colours] + [b"-"] * (room - len(colours))
+            part = shown(text if which == 1 else sheet, line)
+            out.append(b"%d %snumber %d line %d column %d text %d groups %d colours" % (at, name, number, line, column, which, k))
+            out.append(b"".join(b" " + byte for byte in lent))
+            out.append(b" shown %d [" % len(part) + part + b"]\n")
+            if number == 0:
+                out.append(written(colours))
     for colours in COLOURS:
         out.append(written(colours))
     return b"".join(out)

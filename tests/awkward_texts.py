@@ -44,8 +44,8 @@ def bad(line):
     return 22, good + 1
 
 
-def read(text, room):
-    """(refusal, line, column, n, rows): refusal 0 where the text is a list."""
+def read(text, room, repeats=False):
+    """(refusal, line, column, n, rows): refusal 0 where the text is a list. `repeats` allows an edge to stand a second time."""
     if len(text) > 65536:
         return 18, 0, 0, 0, []
     lines = text.split(b"\n")
@@ -76,6 +76,8 @@ def read(text, room):
             return 14, at, 0, 0, []
         if u == v:
             return 15, at, 0, 0, []
+        if not repeats and ((u - 1, v - 1) in edges or (v - 1, u - 1) in edges):
+            return 20, at, 0, 0, []
         count += 1
         edges.append((u - 1, v - 1))
     if n is None:
@@ -159,7 +161,7 @@ def texts():
         # 16: the count, one off either way, found at the end
         b"p edge 3 1\n", b"p edge 3 0\ne 1 2\n", b"p edge 3 2\ne 1 2\n", b"p edge 3 1\ne 1 2\ne 2 3\n", b"p edge 5 4\n" + FIVE[11:], b"p edge 5 6\n" + FIVE[11:],
         b"p edge 3 9999999\ne 1 2\nc x\n", b"p edge 3 0\ne 1 2\ne 3 3\n",
-        # repeated edges, either way round, are counted
+        # 20: repeated edges, either way round; where they are allowed, they are counted
         b"p edge 3 2\ne 1 2\ne 1 2\n", b"p edge 3 2\ne 1 2\ne 2 1\n", b"p edge 3 1\ne 1 2\ne 2 1\n", b"p edge 3 3\ne 3 1\ne 1 3\ne 3 1\n",
         # the first faulty line decides
         b"p edge 3 1\ne 1 4\nx\n", b"p edge 3 1\nx\ne 1 4\n", b"x\np edge 65 0\n", b"p edge 65 0\nx\n", b"e 1 2\nx",
@@ -203,12 +205,13 @@ def each_line(text):
 def output():
     out = []
     for at, (text, room) in enumerate(texts(), 1):
-        number, line, column, n, rows = read(text, room)
-        out.append(b"%d read " % at)
-        if number:
-            out.append(b"%d line %d column %d kept\n" % (number, line, column) + each_line(text))
-        else:
-            out.append(b"0 entries %d rows" % n + b"".join(b" %d" % row for row in rows) + b" rest kept\n" + matrix_output(rows))
+        for name, repeats in ((b"read", False), (b"repeats", True)):
+            number, line, column, n, rows = read(text, room, repeats)
+            out.append(b"%d %s " % (at, name))
+            if number:
+                out.append(b"%d line %d column %d kept\n" % (number, line, column) + each_line(text))
+            else:
+                out.append(b"0 entries %d rows" % n + b"".join(b" %d" % row for row in rows) + b" rest kept\n" + matrix_output(rows))
     for rows in MATRICES:
         out.append(matrix_output(rows))
     return b"".join(out)

@@ -62,6 +62,7 @@ static void numbers(void) {
     CHECK(read_as("p edge 2 1\ne 1  2\n") == SLOTSHEET_DIGIT);
     CHECK(read_as("p edge 2 1\ne 1 2\r\n") == SLOTSHEET_SPACE);
     CHECK(read_as("p edge 2 1\ne 1 2") == SLOTSHEET_UNENDED);
+    CHECK(read_as("p edge 2 2\ne 1 2\ne 2 1\n") == SLOTSHEET_REPEAT);
     CHECK(read_as("e 1 2\n") == SLOTSHEET_HEADLESS);
     CHECK(read_as("p edge 2 0\np edge 2 0\n") == SLOTSHEET_SECOND);
     CHECK(read_as("p edge 65 0\n") == SLOTSHEET_SIZE);
@@ -93,12 +94,17 @@ static void nulls(void) {
     CHECK(slotsheet_fewest(NULL, 0, NULL, 0, 1).nodes == 1);
     CHECK(slotsheet_plain(NULL, 0, odd, 0, 1).leaves == 1);
     CHECK(slotsheet_read_list(NULL, 0, NULL, 0).refusal == SLOTSHEET_HEADLESS);
+    CHECK(slotsheet_read_list_repeats(NULL, 0, NULL, 0).refusal == SLOTSHEET_HEADLESS);
     CHECK(slotsheet_write_list(NULL, 0, out, sizeof out).length == 11);
     CHECK(slotsheet_write_list(NULL, 0, NULL, 0).refusal == SLOTSHEET_FULL);
     CHECK(slotsheet_write_sheet(NULL, 0, NULL, 0).refusal == SLOTSHEET_FULL);
     CHECK(slotsheet_check_sheet(NULL, 0, NULL, 0, NULL, 0).text == SLOTSHEET_LIST);
+    CHECK(slotsheet_check_sheet_repeats(NULL, 0, NULL, 0, NULL, 0).text == SLOTSHEET_LIST);
     CHECK(slotsheet_fault_line(NULL, 0, NULL, 0, 0).length == 0);
+    CHECK(slotsheet_fault_line_repeats(NULL, 0, NULL, 0, 0).length == 0);
     CHECK(slotsheet_answer(NULL, 0, NULL, 0).refusal == SLOTSHEET_FULL);
+    CHECK(slotsheet_answer_repeats(NULL, 0, NULL, 0).refusal == SLOTSHEET_FULL);
+    CHECK(slotsheet_answer_repeats(NULL, 0, out, sizeof out).length == length("refused 11 line 1\n"));
     CHECK(slotsheet_answer(NULL, 0, out, sizeof out).length == length("refused 11 line 1\n"));
     CHECK(slotsheet_sentence(SLOTSHEET_TWICE, 7, 0, NULL, 0, NULL, 0) == length("line 7: the entry on this line stands in an earlier group"));
 }
@@ -134,9 +140,13 @@ static void *deepest(void *unused) {
     CHECK(slotsheet_read_list(text, list.length, none, 64).entries == 64);
     CHECK(slotsheet_check_sheet(text, list.length, sheet, written.length, own, 64).groups == 2);
     CHECK(slotsheet_fault_line(text, list.length, sheet, written.length, 64).text == SLOTSHEET_NONE);
+    CHECK(slotsheet_read_list_repeats(text, list.length, none, 64).entries == 64);
+    CHECK(slotsheet_check_sheet_repeats(text, list.length, sheet, written.length, own, 64).groups == 2);
+    CHECK(slotsheet_fault_line_repeats(text, list.length, sheet, written.length, 64).text == SLOTSHEET_NONE);
     static const uint8_t edgeless[] = "p edge 64 0\n";
     CHECK(slotsheet_answer(edgeless, sizeof edgeless - 1, sheet, sizeof sheet).length == 200);
     CHECK(memcmp(sheet, "groups 1\nsize 64\n1\n2\n", 21) == 0);
+    CHECK(slotsheet_answer_repeats(edgeless, sizeof edgeless - 1, sheet, sizeof sheet).length == 200);
     return unused;
 }
 
@@ -177,11 +187,23 @@ static size_t unescaped(const char *text, uint8_t *bytes) {
     return at;
 }
 
-static void example(size_t refusal, size_t line, size_t column, const uint8_t *text, size_t text_length) {
-    struct slotsheet_reading read = slotsheet_read_list(text, text_length, rows, SLOTSHEET_ENTRIES);
+/* The calls that read a clash text, by one reading. */
+struct calls {
+    struct slotsheet_reading (*read_list)(const uint8_t *, size_t, uint64_t *, size_t);
+    struct slotsheet_checking (*check_sheet)(const uint8_t *, size_t, const uint8_t *, size_t, uint8_t *, size_t);
+    struct slotsheet_part (*fault_line)(const uint8_t *, size_t, const uint8_t *, size_t, size_t);
+    struct slotsheet_writing (*answer)(const uint8_t *, size_t, uint8_t *, size_t);
+};
+static const struct calls plain = {slotsheet_read_list, slotsheet_check_sheet, slotsheet_fault_line, slotsheet_answer};
+static const struct calls repeats = {slotsheet_read_list_repeats, slotsheet_check_sheet_repeats, slotsheet_fault_line_repeats,
+                                     slotsheet_answer_repeats};
+
+static void example(const struct calls *by, size_t refusal, size_t line, size_t column, const uint8_t *text, size_t text_length) {
+    struct slotsheet_reading read = by->read_list(text, text_length, rows, SLOTSHEET_ENTRIES);
     CHECK(read.refusal == refusal && read.line == line && read.column == column);
-    struct slotsheet_checking check = slotsheet_check_sheet(text, text_length, NULL, 0, colours, SLOTSHEET_ENTRIES);
+    struct slotsheet_checking check = by->check_sheet(text, text_length, NULL, 0, colours, SLOTSHEET_ENTRIES);
     CHECK((check.text == SLOTSHEET_LIST) == (refusal != SLOTSHEET_ACCEPTED));
+    CHECK(by->fault_line(text, text_length, NULL, 0, SLOTSHEET_ENTRIES).text == check.text);
     if (refusal == SLOTSHEET_ACCEPTED) return;
     CHECK(check.refusal == refusal && check.line == line && check.column == column && check.groups == 0);
     char said[256], start[80], printed[80];
@@ -194,7 +216,7 @@ static void example(size_t refusal, size_t line, size_t column, const uint8_t *t
         snprintf(printed, sizeof printed, "refused %zu line %zu column %zu\n", refusal, line, column);
     }
     CHECK(strncmp(said, start, length(start)) == 0);
-    struct slotsheet_writing answer = slotsheet_answer(text, text_length, out, sizeof out);
+    struct slotsheet_writing answer = by->answer(text, text_length, out, sizeof out);
     CHECK(answer.length == length(printed) && memcmp(out, printed, answer.length) == 0);
 }
 
@@ -202,12 +224,15 @@ static void examples(void) {
     char stored[256];
     uint8_t text[256];
     while (fgets(stored, sizeof stored, stdin) != NULL) {
+        char reading[8];
         size_t refusal, line, column;
         int from;
         if (stored[0] == '#' || stored[0] == '\n') continue;
         int before = failed;
-        CHECK(sscanf(stored, "%zu %zu %zu%n", &refusal, &line, &column, &from) == 3);
-        example(refusal, line, column, text, unescaped(stored + from + 1, text));
+        CHECK(sscanf(stored, "%7s %zu %zu %zu%n", reading, &refusal, &line, &column, &from) == 4);
+        size_t text_length = unescaped(stored + from + 1, text);
+        if (strcmp(reading, "repeats") != 0) example(&plain, refusal, line, column, text, text_length);
+        if (strcmp(reading, "plain") != 0) example(&repeats, refusal, line, column, text, text_length);
         if (failed > before) printf("of %s", stored);
     }
 }

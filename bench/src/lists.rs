@@ -36,12 +36,12 @@ pub fn random(numbers: &mut Numbers, n: usize, percent: u64) -> Vec<u64> {
     rows
 }
 
-/// The list of a clash text in a file.
+/// The list of a clash text in a file, in which an edge may stand a second time: the published queen graphs have each both ways.
 pub fn load(path: &Path) -> io::Result<Vec<u64>> {
     let mut rows = vec![0; 64];
     let text = fs::read(path)?;
     let refused = |r: second::Refused| io::Error::other(format!("{}: {}", path.display(), r.printed()));
-    let n = second::list::read(&text, &mut rows).map_err(refused)?;
+    let n = second::list::read_repeats(&text, &mut rows).map_err(refused)?;
     rows.truncate(n);
     Ok(rows)
 }

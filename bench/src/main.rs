@@ -42,21 +42,27 @@ const BOUNDS: &[(&str, Bounds)] = &[
 
 type Reader = fn(&[u8], &mut [u64]) -> Result<usize, Refused>;
 
-/// Readers of a clash text: by lines and words, in one pass, and the proved one.
-const READERS: &[(&str, Reader)] = &[
-    ("read, words", list::read),
-    ("read, 1 pass", reading::read),
+/// Readers of a clash text: by lines and words, in one pass, and the proved one; each with its plain reading and the one of repeats.
+const READERS: &[(&str, [Reader; 2])] = &[
+    ("read, words", [list::read, list::read_repeats]),
+    ("read, 1 pass", [reading::read, reading::read_repeats]),
     #[cfg(feature = "proved")]
-    ("read, proved", proved::read),
+    ("read, proved", [proved::read, proved::read_repeats]),
 ];
 
 type Checker = fn(&[u8], &[u8], &mut [u8]) -> Option<usize>;
 
-/// Checks of a sheet against its list: k of an accepted one.
-const CHECKERS: &[(&str, Checker)] = &[
-    ("check, words", |list, sheet, colours| sheet::check(list, sheet, colours).ok()),
+/// Checks of a sheet against its list, by both readings: k of an accepted one.
+const CHECKERS: &[(&str, [Checker; 2])] = &[
+    (
+        "check, words",
+        [
+            |list, sheet, colours| sheet::check(list, sheet, colours).ok(),
+            |list, sheet, colours| sheet::check_by(list::read_repeats, list, sheet, colours).ok(),
+        ],
+    ),
     #[cfg(feature = "proved")]
-    ("check, proved", proved::check),
+    ("check, proved", [proved::check, proved::check_repeats]),
 ];
 
 /// The budget of `slotsheet`.
@@ -210,7 +216,7 @@ fn rates(calls: &mut [&mut dyn FnMut()], bytes: usize) -> Vec<String> {
     seconds(calls, 0.2).iter().map(|taken| format!("{:.0}", bytes as f64 / taken / 1e6)).collect()
 }
 
-/// Reading, and checking the sheet of a smallest division. False where answers differ.
+/// Reading, and checking the sheet of a smallest division; of the text that has repeats, by the reading of repeats. False where answers differ.
 fn texts(tests: &Path) -> bool {
     println!("\nTexts: megabytes per second");
     let mut head: Vec<String> = ["text", "bytes"].map(String::from).to_vec();
@@ -218,8 +224,9 @@ fn texts(tests: &Path) -> bool {
     head.extend(CHECKERS.iter().map(|(name, _)| name.to_string()));
     row(&head);
     for (name, text) in samples(tests) {
+        let reading = usize::from(name == "repeats");
         let mut rows = [0; 64];
-        let n = list::read(&text, &mut rows).expect("a list");
+        let n = READERS[0].1[reading](&text, &mut rows).expect("a list");
         let division = colouring::fewest(&rows[..n]);
         let mut out = [0; 1024];
         let length = sheet::write(&division.colours, &mut out).expect("a division");
@@ -232,15 +239,15 @@ fn texts(tests: &Path) -> bool {
             let mut colours = [0; 64];
             check(&text, sheet, &mut colours) == Some(division.k) && colours[..n] == division.colours
         };
-        if !READERS.iter().all(|(_, read)| same_rows(*read)) || !CHECKERS.iter().all(|(_, check)| same_groups(*check)) {
+        if !READERS.iter().all(|(_, read)| same_rows(read[reading])) || !CHECKERS.iter().all(|(_, check)| same_groups(check[reading])) {
             println!("{name}: the answers differ");
             return false;
         }
         let mut cells = vec![name.to_string(), text.len().to_string()];
-        let mut calls: Vec<_> = READERS.iter().map(|(_, read)| || discard(read(&text, &mut [0; 64]))).collect();
+        let mut calls: Vec<_> = READERS.iter().map(|(_, read)| || discard(read[reading](&text, &mut [0; 64]))).collect();
         let mut calls: Vec<&mut dyn FnMut()> = calls.iter_mut().map(|call| call as &mut dyn FnMut()).collect();
         cells.extend(rates(&mut calls, text.len()));
-        let mut calls: Vec<_> = CHECKERS.iter().map(|(_, check)| || discard(check(&text, sheet, &mut [0; 64]))).collect();
+        let mut calls: Vec<_> = CHECKERS.iter().map(|(_, check)| || discard(check[reading](&text, sheet, &mut [0; 64]))).collect();
         let mut calls: Vec<&mut dyn FnMut()> = calls.iter_mut().map(|call| call as &mut dyn FnMut()).collect();
         cells.extend(rates(&mut calls, text.len() + length));
         row(&cells);

@@ -24,6 +24,14 @@ pub fn read(text: &[u8], rows: &mut [u64]) -> Result<usize, Refused> {
     slotsheet::read_list(text, rows).map_err(refused)
 }
 
+pub fn read_repeats(text: &[u8], rows: &mut [u64]) -> Result<usize, Refused> {
+    slotsheet::read_list_repeats(text, rows).map_err(refused)
+}
+
 pub fn check(list: &[u8], sheet: &[u8], colours: &mut [u8]) -> Option<usize> {
     slotsheet::check_sheet(list, sheet, colours).ok()
+}
+
+pub fn check_repeats(list: &[u8], sheet: &[u8], colours: &mut [u8]) -> Option<usize> {
+    slotsheet::check_sheet_repeats(list, sheet, colours).ok()
 }

@@ -129,6 +129,7 @@ struct Reading {
     stated: Option<(usize, usize)>,
     edges: usize,
     rows: [u64; 64],
+    repeats: bool,
 }
 
 impl Reading {
@@ -154,6 +155,9 @@ impl Reading {
         if u == v {
             return Err(Refusal::Loop);
         }
+        if !self.repeats && self.rows[u - 1] >> (v - 1) & 1 == 1 {
+            return Err(Refusal::Repeat);
+        }
         self.rows[u - 1] |= 1 << (v - 1);
         self.rows[v - 1] |= 1 << (u - 1);
         self.edges += 1;
@@ -175,13 +179,22 @@ impl Reading {
     }
 }
 
-/// Reads a clash text: writes the first n lent rows and returns n, or writes nothing.
+/// Reads a clash text: writes the first n lent rows and returns n, or writes nothing. An edge that stands a second time is refused.
 pub fn read(text: &[u8], rows: &mut [u64]) -> Result<usize, Refused> {
+    read_so(text, rows, false)
+}
+
+/// The same, and an edge may stand a second time.
+pub fn read_repeats(text: &[u8], rows: &mut [u64]) -> Result<usize, Refused> {
+    read_so(text, rows, true)
+}
+
+fn read_so(text: &[u8], rows: &mut [u64], repeats: bool) -> Result<usize, Refused> {
     if text.len() > second::BYTES {
         return Err(Refusal::Long.bare());
     }
     let mut cursor = Cursor { text, at: 0 };
-    let mut reading = Reading { stated: None, edges: 0, rows: [0; 64] };
+    let mut reading = Reading { stated: None, edges: 0, rows: [0; 64], repeats };
     let mut line = 1;
     while cursor.at < text.len() {
         let start = cursor.at;

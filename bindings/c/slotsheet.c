@@ -18,11 +18,15 @@ struct slotsheet_bound slotsheet_proved_mycielskian_bound(const uint64_t *, size
 struct slotsheet_walk slotsheet_proved_fewest(const uint64_t *, size_t, uint8_t *, size_t, uint64_t);
 struct slotsheet_walk slotsheet_proved_plain(const uint64_t *, size_t, uint8_t *, size_t, uint64_t);
 struct slotsheet_reading slotsheet_proved_read_list(const uint8_t *, size_t, uint64_t *, size_t);
+struct slotsheet_reading slotsheet_proved_read_list_repeats(const uint8_t *, size_t, uint64_t *, size_t);
 struct slotsheet_writing slotsheet_proved_write_list(const uint64_t *, size_t, uint8_t *, size_t);
 struct slotsheet_writing slotsheet_proved_write_sheet(const uint8_t *, size_t, uint8_t *, size_t);
 struct slotsheet_checking slotsheet_proved_check_sheet(const uint8_t *, size_t, const uint8_t *, size_t, uint8_t *, size_t);
+struct slotsheet_checking slotsheet_proved_check_sheet_repeats(const uint8_t *, size_t, const uint8_t *, size_t, uint8_t *, size_t);
 struct slotsheet_part slotsheet_proved_fault_line(const uint8_t *, size_t, const uint8_t *, size_t, size_t);
+struct slotsheet_part slotsheet_proved_fault_line_repeats(const uint8_t *, size_t, const uint8_t *, size_t, size_t);
 struct slotsheet_writing slotsheet_proved_answer(const uint8_t *, size_t, uint8_t *, size_t);
+struct slotsheet_writing slotsheet_proved_answer_repeats(const uint8_t *, size_t, uint8_t *, size_t);
 
 struct slotsheet_verdict slotsheet_validity(const uint64_t *rows, size_t rows_length) {
     return slotsheet_proved_validity(ROWS(rows));
@@ -48,6 +52,10 @@ struct slotsheet_reading slotsheet_read_list(const uint8_t *text, size_t text_le
     return slotsheet_proved_read_list(BYTES(text), ROWS(rows));
 }
 
+struct slotsheet_reading slotsheet_read_list_repeats(const uint8_t *text, size_t text_length, uint64_t *rows, size_t rows_length) {
+    return slotsheet_proved_read_list_repeats(BYTES(text), ROWS(rows));
+}
+
 struct slotsheet_writing slotsheet_write_list(const uint64_t *rows, size_t rows_length, uint8_t *out, size_t out_length) {
     return slotsheet_proved_write_list(ROWS(rows), BYTES(out));
 }
@@ -61,12 +69,26 @@ struct slotsheet_checking slotsheet_check_sheet(const uint8_t *list, size_t list
     return slotsheet_proved_check_sheet(BYTES(list), BYTES(sheet), BYTES(colours));
 }
 
+struct slotsheet_checking slotsheet_check_sheet_repeats(const uint8_t *list, size_t list_length, const uint8_t *sheet, size_t sheet_length,
+                                                        uint8_t *colours, size_t colours_length) {
+    return slotsheet_proved_check_sheet_repeats(BYTES(list), BYTES(sheet), BYTES(colours));
+}
+
 struct slotsheet_part slotsheet_fault_line(const uint8_t *list, size_t list_length, const uint8_t *sheet, size_t sheet_length, size_t room) {
     return slotsheet_proved_fault_line(BYTES(list), BYTES(sheet), room);
 }
 
+struct slotsheet_part slotsheet_fault_line_repeats(const uint8_t *list, size_t list_length, const uint8_t *sheet, size_t sheet_length,
+                                                   size_t room) {
+    return slotsheet_proved_fault_line_repeats(BYTES(list), BYTES(sheet), room);
+}
+
 struct slotsheet_writing slotsheet_answer(const uint8_t *text, size_t text_length, uint8_t *out, size_t out_length) {
     return slotsheet_proved_answer(BYTES(text), BYTES(out));
+}
+
+struct slotsheet_writing slotsheet_answer_repeats(const uint8_t *text, size_t text_length, uint8_t *out, size_t out_length) {
+    return slotsheet_proved_answer_repeats(BYTES(text), BYTES(out));
 }
 
 const char *slotsheet_version(void) {

@@ -19,6 +19,7 @@ static const struct { size_t number; const char *name, *sentence; } table[] = {
     {17, "ROOM", "line {place}: this line states more entries than there is room for"},
     {18, "LONG", "the text is longer than 65,536 bytes"},
     {19, "FULL", "there is too little room to write the whole text"},
+    {20, "REPEAT", "line {place}: this clash stands in an earlier line already, the same or the other way round"},
     {21, "DIGIT", "line {place}, column {column}: here a number must start, and there is none; or a number goes on here after a leading 0 or its seventh digit"},
     {22, "SPACE", "line {place}, column {column}: here, after a word or a number, one space or the line's end must come, and there is something else (it may not be visible), or the line stops"},
     {23, "UNENDED", "line {place}, column {column}: the last line stops here without its line end"},

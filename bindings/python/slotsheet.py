@@ -24,6 +24,16 @@ Every call that the library refuses raises Refused, which has the refusal's numb
         ...
     slotsheet.Refused: sheet: line 4: entry 2 clashes with an earlier entry of its group
 
+A clash text names each edge once: one that stands a second time, either way round, is refused as 20. The functions whose names end in _repeats allow
+it, for lists whose exporter names each clash both ways; they are the same in everything else.
+
+    >>> slotsheet.read_list("p edge 2 2\\ne 1 2\\ne 2 1\\n")
+    Traceback (most recent call last):
+        ...
+    slotsheet.Refused: line 3: this clash stands in an earlier line already, the same or the other way round
+    >>> slotsheet.read_list_repeats("p edge 2 2\\ne 1 2\\ne 2 1\\n")
+    [2, 1]
+
 The library is libslotsheet.so of this module's major version: the one that the environment variable SLOTSHEET_LIB names, as a file or as its folder;
 else the one in the prefix that this module was installed to; else the one that the system finds. Nothing but Python's standard library is needed.
 Calls may be made from any number of threads.
@@ -37,12 +47,12 @@ from pathlib import Path
 
 __all__ = [
     "VERSION", "ENTRIES", "BYTES", "SHEET_BYTES", "LIST_BYTES", "NODES", "STACK_BYTES", "Refused", "Walked", "Checked", "version", "rows_of", "validity",
-    "clique_bound", "mycielskian_bound", "fewest", "plain", "read_list", "write_list", "write_sheet", "check_sheet", "fault_line",
-    "answer",
+    "clique_bound", "mycielskian_bound", "fewest", "plain", "read_list", "read_list_repeats", "write_list", "write_sheet", "check_sheet",
+    "check_sheet_repeats", "fault_line", "fault_line_repeats", "answer", "answer_repeats",
 ]
 
 # tools/bindings writes from here on, from bindings/interface.txt
-VERSION = "2.1.0"
+VERSION = "3.0.0"
 
 ENTRIES = 64  # the most entries of a list
 BYTES = 65_536  # the most bytes of a text that is read
@@ -74,6 +84,7 @@ _TABLE = {
     17: ("ROOM", "line", "line {place}: this line states more entries than there is room for"),
     18: ("LONG", None, "the text is longer than 65,536 bytes"),
     19: ("FULL", None, "there is too little room to write the whole text"),
+    20: ("REPEAT", "line", "line {place}: this clash stands in an earlier line already, the same or the other way round"),
     21: ("DIGIT", "spot", "line {place}, column {column}: here a number must start, and there is none; or a number goes on here after a leading 0 or its seventh digit"),
     22: ("SPACE", "spot", "line {place}, column {column}: here, after a word or a number, one space or the line's end must come, and there is something else (it may not be visible), or the line stops"),
     23: ("UNENDED", "spot", "line {place}, column {column}: the last line stops here without its line end"),
@@ -173,11 +184,15 @@ _CALLS = {
     "fewest": (_Walk, _ROWS + _LENT + [c_uint64]),
     "plain": (_Walk, _ROWS + _LENT + [c_uint64]),
     "read_list": (_Reading, _TEXT + _ROWS),
+    "read_list_repeats": (_Reading, _TEXT + _ROWS),
     "write_list": (_Writing, _ROWS + _LENT),
     "write_sheet": (_Writing, _TEXT + _LENT),
     "check_sheet": (_Checking, _TEXT + _TEXT + _LENT),
+    "check_sheet_repeats": (_Checking, _TEXT + _TEXT + _LENT),
     "fault_line": (_Part, _TEXT + _TEXT + [c_size_t]),
+    "fault_line_repeats": (_Part, _TEXT + _TEXT + [c_size_t]),
     "answer": (_Writing, _TEXT + _LENT),
+    "answer_repeats": (_Writing, _TEXT + _LENT),
     "version": (c_char_p, []),
     "name": (c_char_p, [c_size_t]),
     "sentence": (c_size_t, [c_size_t, c_uint64, c_size_t] + _TEXT + [c_char_p, c_size_t]),
@@ -287,12 +302,21 @@ def plain(rows, budget=NODES):
     return _walk(_library.slotsheet_plain, rows, budget)
 
 
-def read_list(text):
-    """The rows of a clash text, given as str or bytes. Refused as 18, as 11 to 16 with the line, and as 10, 21, 22 and 23 with line and column."""
+def _read(call, text):
     text = _text(text)
     rows = (c_uint64 * ENTRIES)()
-    said = _library.slotsheet_read_list(text, len(text), rows, ENTRIES)
+    said = call(text, len(text), rows, ENTRIES)
     return _answered(said.refusal, said.line, rows[: said.entries], said.column)
+
+
+def read_list(text):
+    """The rows of a clash text, given as str or bytes. Refused as 18, as 11 to 16 and 20 with the line, as 10, 21, 22 and 23 with line and column."""
+    return _read(_library.slotsheet_read_list, text)
+
+
+def read_list_repeats(text):
+    """The same, and an edge may stand a second time."""
+    return _read(_library.slotsheet_read_list_repeats, text)
 
 
 def write_list(rows):
@@ -318,6 +342,13 @@ def write_sheet(colours):
     return _answered(said.refusal, said.place, bytes(out[: said.length]).decode("ascii"))
 
 
+def _printed(call, text):
+    text = _text(text)
+    out = (c_uint8 * SHEET_BYTES)()
+    said = call(text, len(text), out, SHEET_BYTES)
+    return _answered(said.refusal, said.place, bytes(out[: said.length]).decode("ascii"))
+
+
 def answer(text):
     """What the program slotsheet prints for a clash text, as str: the sheet of its fewest sittings, or the refusal in a line. Never refused.
 
@@ -328,10 +359,28 @@ def answer(text):
     >>> answer("p edge 2 1\\ne 1\\n")
     'refused 22 line 2 column 4\\n'
     """
-    text = _text(text)
-    out = (c_uint8 * SHEET_BYTES)()
-    said = _library.slotsheet_answer(text, len(text), out, SHEET_BYTES)
-    return _answered(said.refusal, said.place, bytes(out[: said.length]).decode("ascii"))
+    return _printed(_library.slotsheet_answer, text)
+
+
+def answer_repeats(text):
+    """The same for slotsheet --repeats: an edge may stand a second time."""
+    return _printed(_library.slotsheet_answer_repeats, text)
+
+
+def _part(call, list_text, sheet):
+    part = call(list_text, len(list_text), sheet, len(sheet), ENTRIES)
+    text = list_text if part.text == _LIST else sheet
+    return text[part.start : part.start + part.length]
+
+
+def _check(call, fault, read, list_text, sheet):
+    list_text, sheet = _text(list_text), _text(sheet)
+    colours = (c_uint8 * ENTRIES)()
+    said = call(list_text, len(list_text), sheet, len(sheet), colours, ENTRIES)
+    if said.refusal:
+        shown = _part(fault, list_text, sheet)
+        raise Refused(said.refusal, said.line, said.column, "list" if said.text == _LIST else "sheet", shown)
+    return Checked(said.groups, colours[: len(read(list_text))])
 
 
 def check_sheet(list_text, sheet):
@@ -342,18 +391,19 @@ def check_sheet(list_text, sheet):
     >>> check_sheet("p edge 2 1\\ne 1 2\\n", "groups 2\\nsize 1\\n1\\nsize 1\\n2\\n")
     Checked(k=2, colours=[0, 1])
     """
-    list_text, sheet = _text(list_text), _text(sheet)
-    colours = (c_uint8 * ENTRIES)()
-    said = _library.slotsheet_check_sheet(list_text, len(list_text), sheet, len(sheet), colours, ENTRIES)
-    if said.refusal:
-        shown = fault_line(list_text, sheet)
-        raise Refused(said.refusal, said.line, said.column, "list" if said.text == _LIST else "sheet", shown)
-    return Checked(said.groups, colours[: len(read_list(list_text))])
+    return _check(_library.slotsheet_check_sheet, _library.slotsheet_fault_line, read_list, list_text, sheet)
+
+
+def check_sheet_repeats(list_text, sheet):
+    """The same, and an edge of the list may stand a second time."""
+    return _check(_library.slotsheet_check_sheet_repeats, _library.slotsheet_fault_line_repeats, read_list_repeats, list_text, sheet)
 
 
 def fault_line(list_text, sheet):
     """The line at fault in a check, as bytes without its line feed: empty for a fault at a text's end, for 18, and where the check accepts."""
-    list_text, sheet = _text(list_text), _text(sheet)
-    part = _library.slotsheet_fault_line(list_text, len(list_text), sheet, len(sheet), ENTRIES)
-    text = list_text if part.text == _LIST else sheet
-    return text[part.start : part.start + part.length]
+    return _part(_library.slotsheet_fault_line, _text(list_text), _text(sheet))
+
+
+def fault_line_repeats(list_text, sheet):
+    """The same for check_sheet_repeats."""
+    return _part(_library.slotsheet_fault_line_repeats, _text(list_text), _text(sheet))

@@ -29,6 +29,7 @@ REFUSED = {
     15: (lambda: slotsheet.read_list("p edge 2 1\ne 1 1\n"), {"line": 2}),
     16: (lambda: slotsheet.read_list("p edge 2 2\ne 1 2\n"), {"line": 3}),
     18: (lambda: slotsheet.read_list(b"\n" * 65537), {}),
+    20: (lambda: slotsheet.check_sheet("p edge 2 2\ne 1 2\ne 2 1\n", ""), {"line": 3, "text": "list", "shown": b"e 2 1"}),
     21: (lambda: slotsheet.read_list("p edge 2 1\ne 1  2\n"), {"line": 2, "column": 5}),
     22: (lambda: slotsheet.check_sheet("p edge 1 0\r\n", ""), {"line": 1, "column": 11, "text": "list", "shown": b"p edge 1 0\r"}),
     23: (lambda: slotsheet.read_list("p edge 1 0"), {"line": 1, "column": 11}),
@@ -43,6 +44,10 @@ REFUSED = {
     38: (lambda: slotsheet.write_sheet([0, 2]), {"index": 1}),
 }
 UNMET = {5, 7, 17, 19}
+
+# The functions that read a clash text, by the two readings.
+PLAIN = (slotsheet.read_list, slotsheet.check_sheet, slotsheet.answer)
+REPEATS = (slotsheet.read_list_repeats, slotsheet.check_sheet_repeats, slotsheet.answer_repeats)
 
 
 def interface(kind):
@@ -90,6 +95,16 @@ class Calls(unittest.TestCase):
         self.assertEqual(slotsheet.read_list("c Bogenschießen\np edge 1 0\n"), [0])
         self.assertEqual(slotsheet.read_list(b"c \xff\x00\np edge 1 0\n"), [0])
 
+    def test_a_list_that_names_each_clash_both_ways(self):
+        text = "p edge 3 4\ne 1 2\ne 2 1\ne 2 3\ne 3 2\n"
+        sheet = "groups 2\nsize 2\n1\n3\nsize 1\n2\n"
+        self.assertEqual(slotsheet.read_list_repeats(text), [2, 5, 2])
+        self.assertEqual(slotsheet.answer_repeats(text), sheet)
+        self.assertEqual(slotsheet.check_sheet_repeats(text, sheet), (2, [0, 1, 0]))
+        self.assertEqual(slotsheet.fault_line(text, sheet), b"e 2 1")
+        self.assertEqual(slotsheet.fault_line_repeats(text, sheet), b"")
+        self.assertEqual(slotsheet.fault_line_repeats(text, sheet[:-2] + "3\n"), b"3")
+
     def test_wrong_arguments(self):
         for rows in ([-1], [1 << 64]):
             self.assertRaises(OverflowError, slotsheet.validity, rows)
@@ -129,20 +144,21 @@ class Refusals(unittest.TestCase):
     def test_the_stored_examples(self):
         stored = (Path(__file__).resolve().parents[2] / "tests" / "examples.txt").read_text()
         for example in (line for line in stored.splitlines() if line and not line.startswith("#")):
-            number, line, column, text = example.split(" ", 3)
+            reading, number, line, column, text = example.split(" ", 4)
             text = text.encode().decode("unicode_escape").encode("latin-1")
-            with self.subTest(example):
-                if number == "0":
-                    slotsheet.read_list(text)
-                    continue
-                told = f"refused {number} line {line}" + (f" column {column}" if column != "0" else "")
-                self.assertEqual(slotsheet.answer(text), told + "\n")
-                for call in (lambda: slotsheet.read_list(text), lambda: slotsheet.check_sheet(text, "")):
-                    with self.assertRaises(Refused) as caught:
-                        call()
-                    refused = caught.exception
-                    self.assertEqual((refused.number, refused.line, refused.column or 0), (int(number), int(line), int(column)))
-                    self.assertIn(f"line {line}, column {column}: " if column != "0" else f"line {line}: ", refused.sentence)
+            for read, check, answer in (PLAIN, REPEATS) if reading == "both" else (PLAIN,) if reading == "plain" else (REPEATS,):
+                with self.subTest(example):
+                    if number == "0":
+                        read(text)
+                        continue
+                    told = f"refused {number} line {line}" + (f" column {column}" if column != "0" else "")
+                    self.assertEqual(answer(text), told + "\n")
+                    for call in (lambda: read(text), lambda: check(text, "")):
+                        with self.assertRaises(Refused) as caught:
+                            call()
+                        refused = caught.exception
+                        self.assertEqual((refused.number, refused.line, refused.column or 0), (int(number), int(line), int(column)))
+                        self.assertIn(f"line {line}, column {column}: " if column != "0" else f"line {line}: ", refused.sentence)
 
     def test_sentences_are_those_of_c(self):
         for number in slotsheet._TABLE:

@@ -8,12 +8,14 @@ use crate::{matrix, Refusal, Refused, BYTES, ENTRIES};
 struct State {
     /// Entries and stated number of e lines, once the p line stood.
     stated: Option<(usize, usize)>,
-    edges: usize,
-    rows: [u64; ENTRIES],
+    /// The ends of each e line, the smaller first.
+    edges: Vec<[usize; 2]>,
+    /// Whether an edge may stand a second time.
+    repeats: bool,
 }
 
 impl State {
-    /// One line, by 10 and its kin, 11, 12, 13, 17, 14, 15.
+    /// One line, by 10 and its kin, 11, 12, 13, 17, 14, 15, 20.
     fn take(&mut self, line: &Line, room: usize) -> Result<(), Refused> {
         let Some(shape) = shape(line.bytes).filter(|_| line.ended) else {
             let (kind, column) = bad(line.bytes);
@@ -22,7 +24,7 @@ impl State {
         self.say(shape, room).map_err(|why| why.at(line.number))
     }
 
-    /// What an ended line of permitted shape says: 11, 12, 13, 17, 14, 15.
+    /// What an ended line of permitted shape says: 11, 12, 13, 17, 14, 15, 20.
     fn say(&mut self, shape: Shape, room: usize) -> Result<(), Refusal> {
         match (shape, self.stated) {
             (Shape::Comment, _) => {}
@@ -34,31 +36,46 @@ impl State {
             (Shape::Edge { ends }, Some((n, _))) if ends.iter().any(|&end| end < 1 || end > n) => return Err(Refusal::Vertex),
             (Shape::Edge { ends: [u, v] }, Some(_)) if u == v => return Err(Refusal::Loop),
             (Shape::Edge { ends: [u, v] }, Some(_)) => {
-                self.edges += 1;
-                self.rows[u - 1] |= 1 << (v - 1);
-                self.rows[v - 1] |= 1 << (u - 1);
+                let edge = [u.min(v), u.max(v)];
+                if !self.repeats && self.edges.contains(&edge) {
+                    return Err(Refusal::Repeat);
+                }
+                self.edges.push(edge);
             }
         }
         Ok(())
     }
 }
 
-/// Reads a clash text: writes the first n lent rows and returns n, or writes nothing.
+/// A reading of a clash text: writes the first n lent rows and returns n, or writes nothing.
+pub type Reading = fn(&[u8], &mut [u64]) -> Result<usize, Refused>;
+
+/// The plain reading, which refuses an edge that stands a second time, either way round.
 pub fn read(text: &[u8], rows: &mut [u64]) -> Result<usize, Refused> {
+    read_so(text, rows, false)
+}
+
+/// The old reading, which allows it.
+pub fn read_repeats(text: &[u8], rows: &mut [u64]) -> Result<usize, Refused> {
+    read_so(text, rows, true)
+}
+
+fn read_so(text: &[u8], rows: &mut [u64], repeats: bool) -> Result<usize, Refused> {
     if text.len() > BYTES {
         return Err(Refusal::Long.bare());
     }
     let all = lines(text);
-    let mut state = State { stated: None, edges: 0, rows: [0; ENTRIES] };
+    let mut state = State { stated: None, edges: Vec::new(), repeats };
     for line in &all {
         state.take(line, rows.len())?;
     }
     let past = all.len() + 1;
     let (n, stated) = state.stated.ok_or(Refusal::Headless.at(past))?;
-    if state.edges != stated {
+    if state.edges.len() != stated {
         return Err(Refusal::Count.at(past));
     }
-    rows[..n].copy_from_slice(&state.rows[..n]);
+    let clashes: Vec<(usize, usize)> = state.edges.iter().map(|[u, v]| (u - 1, v - 1)).collect();
+    rows[..n].copy_from_slice(&matrix::rows_of(n, &clashes));
     Ok(n)
 }
 
@@ -92,7 +109,7 @@ mod tests {
     const FIVE_CYCLE: &str = "p edge 5 5\ne 1 2\ne 2 3\ne 3 4\ne 4 5\ne 1 5\n";
 
     /// Reads with 64 lent rows of a pattern that must stay where reading writes nothing.
-    fn read_64(text: &[u8]) -> Result<Vec<u64>, [u64; 3]> {
+    fn read_64_by(read: Reading, text: &[u8]) -> Result<Vec<u64>, [u64; 3]> {
         let mut rows = [0xA5A5_u64; 64];
         match read(text, &mut rows) {
             Ok(n) => {
@@ -104,6 +121,13 @@ mod tests {
                 Err([refused.why.number(), refused.place, refused.column])
             }
         }
+    }
+
+    /// By both readings, alike.
+    fn read_64(text: &[u8]) -> Result<Vec<u64>, [u64; 3]> {
+        let plain = read_64_by(read, text);
+        assert_eq!(read_64_by(read_repeats, text), plain, "{:?}", String::from_utf8_lossy(text));
+        plain
     }
 
     fn refused_at(text: &str, number: u64, line: u64, column: u64) {
@@ -125,9 +149,8 @@ mod tests {
     #[test]
     fn permitted() {
         let pair = Ok(vec![2, 1]);
-        assert_eq!(read_64(b"c \np edge 2 2\ne 1 2\nc \xff\x00 anything\ne 2 1\nc end\n"), pair);
+        assert_eq!(read_64(b"c \np edge 2 1\nc \xff\x00 anything\ne 2 1\nc end\n"), pair);
         assert_eq!(read_64(b"p edge 2 1\ne 2 1\n"), pair);
-        assert_eq!(read_64(b"p edge 2 3\ne 1 2\ne 1 2\ne 1 2\n"), pair);
         assert_eq!(read_64(b"p edge 64 0\n"), Ok(vec![0; 64]));
         assert_eq!(read_64(b"p edge 64 1\ne 64 1\n").unwrap()[0], 1 << 63);
         assert_eq!(read_64(b"c   \nc c\np edge 1 0\n"), Ok(vec![0]));
@@ -189,9 +212,26 @@ mod tests {
         refused("p edge 3 1\ne 3 3\n", 15, 2);
         refused("p edge 3 1\n", 16, 2);
         refused("p edge 3 0\ne 1 2\n", 16, 3);
-        refused("p edge 3 1\ne 1 2\ne 1 2\nc x\n", 16, 5);
+        refused("p edge 3 1\ne 1 2\ne 1 3\nc x\n", 16, 5);
         refused("p edge 3 0\ne 1 2\ne 2 2\n", 15, 3);
         refused("p edge 3 9999999\ne 1 2\n", 16, 3);
+    }
+
+    /// The line of the second, after 15 of its line, before later lines and the count; allowed by the old reading, in which every e line counts.
+    #[test]
+    fn repeats() {
+        let repeated = |text: &str, line: u64, allowed: Result<Vec<u64>, [u64; 3]>| {
+            assert_eq!(read_64_by(read, text.as_bytes()), Err([20, line, 0]), "{text:?}");
+            assert_eq!(read_64_by(read_repeats, text.as_bytes()), allowed, "{text:?}");
+        };
+        repeated("p edge 2 2\ne 1 2\ne 1 2\n", 3, Ok(vec![2, 1]));
+        repeated("p edge 2 2\ne 1 2\ne 2 1\n", 3, Ok(vec![2, 1]));
+        repeated("p edge 3 4\ne 1 2\nc x\ne 2 3\ne 3 2\ne 1 2\n", 5, Ok(vec![2, 5, 2]));
+        repeated("p edge 2 1\ne 1 2\ne 2 1\n", 3, Err([16, 4, 0]));
+        repeated("p edge 2 2\ne 2 1\ne 1 2\ne 3 3\n", 3, Err([14, 4, 0]));
+        repeated("p edge 2 2\ne 2 1\ne 2 1\ne 1 2", 3, Err([23, 4, 6]));
+        refused("p edge 2 2\ne 2 1\ne 1 1\ne 1 2\n", 15, 3);
+        refused_at("p edge 2 2\ne 2 1\ne 1 2\r\n", 22, 3, 6);
     }
 
     #[test]

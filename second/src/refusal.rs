@@ -20,6 +20,7 @@ pub enum Refusal {
     Room = 17,
     Long = 18,
     Full = 19,
+    Repeat = 20,
     Digit = 21,
     Space = 22,
     Unended = 23,

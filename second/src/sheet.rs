@@ -1,7 +1,7 @@
 //! Sitting sheets: written from colours, checked against a list, and the part that the preview shows.
 
 use crate::lines::{lines, number, words, Line};
-use crate::list::{self, put};
+use crate::list::{self, put, Reading};
 use crate::{matrix, Refusal, Refused, BYTES, ENTRIES};
 
 /// The sheet of colours numbered by first use, `k` groups.
@@ -143,9 +143,9 @@ fn judge_sheet(rows: &[u64], sheet: &[u8]) -> Result<Vec<Vec<usize>>, Refused> {
 }
 
 /// Both texts: the list's own refusals, then 5, then the sheet's. Accepted: the groups, and n.
-fn judge(list: &[u8], sheet: &[u8], room: usize) -> Result<(Vec<Vec<usize>>, usize), Fault> {
+fn judge(read: Reading, list: &[u8], sheet: &[u8], room: usize) -> Result<(Vec<Vec<usize>>, usize), Fault> {
     let mut rows = [0; ENTRIES];
-    let n = list::read(list, &mut rows).map_err(|refused| Fault { text: Text::List, refused })?;
+    let n = read(list, &mut rows).map_err(|refused| Fault { text: Text::List, refused })?;
     let fault = |refused| Fault { text: Text::Sheet, refused };
     if room < n {
         return Err(fault(Refusal::Short.bare()));
@@ -155,7 +155,12 @@ fn judge(list: &[u8], sheet: &[u8], room: usize) -> Result<(Vec<Vec<usize>>, usi
 
 /// Checks a sheet against a list: returns k and writes each entry's group number to the lent colours, or writes nothing.
 pub fn check(list: &[u8], sheet: &[u8], colours: &mut [u8]) -> Result<usize, Fault> {
-    let (groups, _) = judge(list, sheet, colours.len())?;
+    check_by(list::read, list, sheet, colours)
+}
+
+/// The same by either reading of the list.
+pub fn check_by(read: Reading, list: &[u8], sheet: &[u8], colours: &mut [u8]) -> Result<usize, Fault> {
+    let (groups, _) = judge(read, list, sheet, colours.len())?;
     for (number, group) in groups.iter().enumerate() {
         for &entry in group {
             colours[entry] = number as u8;
@@ -174,7 +179,12 @@ pub struct Part {
 
 /// The preview's part: the line at fault without its line feed, or the empty part that document 01 names.
 pub fn preview(list: &[u8], sheet: &[u8], room: usize) -> Part {
-    let Err(Fault { text, refused }) = judge(list, sheet, room) else {
+    preview_by(list::read, list, sheet, room)
+}
+
+/// The same by either reading of the list.
+pub fn preview_by(read: Reading, list: &[u8], sheet: &[u8], room: usize) -> Part {
+    let Err(Fault { text, refused }) = judge(read, list, sheet, room) else {
         return Part { text: Text::Sheet, offset: 0, length: 0 };
     };
     let bytes = match text {
@@ -343,6 +353,16 @@ mod tests {
         let long = &mut [9; 70];
         assert_eq!(check(FIVE_CYCLE.as_bytes(), FIVE_SHEET.as_bytes(), long), Ok(3));
         assert_eq!(long[..6], [0, 1, 0, 1, 2, 9]);
+    }
+
+    #[test]
+    fn by_either_reading() {
+        let list = b"p edge 2 2\ne 1 2\ne 2 1\n";
+        let sheet = b"groups 2\nsize 1\n1\nsize 1\n2\n";
+        assert_eq!(check(list, sheet, &mut [9; 2]), Err(Fault { text: Text::List, refused: Refusal::Repeat.at(3) }));
+        assert_eq!(preview(list, sheet, 2), Part { text: Text::List, offset: 17, length: 5 });
+        assert_eq!(check_by(list::read_repeats, list, sheet, &mut [9; 2]), Ok(2));
+        assert_eq!(preview_by(list::read_repeats, list, sheet, 2), Part { text: Text::Sheet, offset: 0, length: 0 });
     }
 
     #[test]

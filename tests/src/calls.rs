@@ -49,10 +49,18 @@ pub fn plain(rows: &[u64], colours: &mut [u8], budget: u64) -> [u64; 5] {
     walk(unsafe { raw::slotsheet_plain(rows.as_ptr(), rows.len(), colours.as_mut_ptr(), colours.len(), budget) })
 }
 
+fn read(said: raw::Reading) -> [usize; 4] {
+    [said.refusal, said.line, said.column, said.entries]
+}
+
 pub fn read_list(text: &[u8], rows: &mut [u64]) -> [usize; 4] {
     // SAFETY: as in `validity`.
-    let said = unsafe { raw::slotsheet_read_list(text.as_ptr(), text.len(), rows.as_mut_ptr(), rows.len()) };
-    [said.refusal, said.line, said.column, said.entries]
+    read(unsafe { raw::slotsheet_read_list(text.as_ptr(), text.len(), rows.as_mut_ptr(), rows.len()) })
+}
+
+pub fn read_list_repeats(text: &[u8], rows: &mut [u64]) -> [usize; 4] {
+    // SAFETY: as in `validity`.
+    read(unsafe { raw::slotsheet_read_list_repeats(text.as_ptr(), text.len(), rows.as_mut_ptr(), rows.len()) })
 }
 
 pub fn write_list(rows: &[u64], out: &mut [u8]) -> [usize; 3] {
@@ -73,11 +81,26 @@ pub fn answer(text: &[u8], out: &mut [u8]) -> [usize; 3] {
     [said.refusal, said.place, said.length]
 }
 
-pub fn check_sheet(list: &[u8], sheet: &[u8], colours: &mut [u8]) -> [usize; 5] {
+pub fn answer_repeats(text: &[u8], out: &mut [u8]) -> [usize; 3] {
     // SAFETY: as in `validity`.
-    let said =
-        unsafe { raw::slotsheet_check_sheet(list.as_ptr(), list.len(), sheet.as_ptr(), sheet.len(), colours.as_mut_ptr(), colours.len()) };
+    let said = unsafe { raw::slotsheet_answer_repeats(text.as_ptr(), text.len(), out.as_mut_ptr(), out.len()) };
+    [said.refusal, said.place, said.length]
+}
+
+fn checked(said: raw::Checking) -> [usize; 5] {
     [said.refusal, said.line, said.column, said.groups, said.text]
+}
+
+pub fn check_sheet(list: &[u8], sheet: &[u8], colours: &mut [u8]) -> [usize; 5] {
+    let (room, lent) = (colours.len(), colours.as_mut_ptr());
+    // SAFETY: as in `validity`.
+    checked(unsafe { raw::slotsheet_check_sheet(list.as_ptr(), list.len(), sheet.as_ptr(), sheet.len(), lent, room) })
+}
+
+pub fn check_sheet_repeats(list: &[u8], sheet: &[u8], colours: &mut [u8]) -> [usize; 5] {
+    let (room, lent) = (colours.len(), colours.as_mut_ptr());
+    // SAFETY: as in `validity`.
+    checked(unsafe { raw::slotsheet_check_sheet_repeats(list.as_ptr(), list.len(), sheet.as_ptr(), sheet.len(), lent, room) })
 }
 
 pub fn fault_line(list: &[u8], sheet: &[u8], room: usize) -> [usize; 3] {
@@ -85,3 +108,21 @@ pub fn fault_line(list: &[u8], sheet: &[u8], room: usize) -> [usize; 3] {
     let said = unsafe { raw::slotsheet_fault_line(list.as_ptr(), list.len(), sheet.as_ptr(), sheet.len(), room) };
     [said.text, said.start, said.length]
 }
+
+pub fn fault_line_repeats(list: &[u8], sheet: &[u8], room: usize) -> [usize; 3] {
+    // SAFETY: as in `validity`.
+    let said = unsafe { raw::slotsheet_fault_line_repeats(list.as_ptr(), list.len(), sheet.as_ptr(), sheet.len(), room) };
+    [said.text, said.start, said.length]
+}
+
+/// The calls that read a clash text, by one reading.
+pub struct Calls {
+    pub read_list: fn(&[u8], &mut [u64]) -> [usize; 4],
+    pub check_sheet: fn(&[u8], &[u8], &mut [u8]) -> [usize; 5],
+    pub fault_line: fn(&[u8], &[u8], usize) -> [usize; 3],
+    pub answer: fn(&[u8], &mut [u8]) -> [usize; 3],
+}
+
+pub const PLAIN: Calls = Calls { read_list, check_sheet, fault_line, answer };
+pub const REPEATS: Calls =
+    Calls { read_list: read_list_repeats, check_sheet: check_sheet_repeats, fault_line: fault_line_repeats, answer: answer_repeats };

@@ -84,12 +84,13 @@ pub fn sample(numbers: &mut Numbers) -> Sample {
     Sample { list, sheet, room: *pick(numbers, &[n, n, n, n, n + 3, n.saturating_sub(1), 0, 64, 70]) }
 }
 
-/// A text of the list: edges in any order and either way round, some twice, comments anywhere.
+/// A text of the list: edges in any order and either way round, in one text of five some twice, comments anywhere.
 fn list_text(numbers: &mut Numbers, rows: &[u64]) -> Vec<u8> {
     let mut edges: Vec<String> = Vec::new();
+    let twice = if chance(numbers, 20) { 5 } else { 0 };
     for (i, row) in rows.iter().enumerate() {
         for j in (i + 1..rows.len()).filter(|j| row >> j & 1 == 1) {
-            for _ in 0..if chance(numbers, 5) { 2 } else { 1 } {
+            for _ in 0..if chance(numbers, twice) { 2 } else { 1 } {
                 let (u, v) = if chance(numbers, 50) { (i + 1, j + 1) } else { (j + 1, i + 1) };
                 edges.insert(numbers.below(edges.len() as u64 + 1) as usize, format!("e {u} {v}\n"));
             }

@@ -6,7 +6,8 @@
 //! - `NAME.col`: lists of this folder, made here;
 //! - `expected`: "NAME k nodes", for each list of the three folders that the walk ends within the budget; k is the second program's too;
 //! - `refused`: "NAME 6 nodes", for the others;
-//! - `sheets/NAME`: what `slotsheet` prints for the list.
+//! - `repeats`: "NAME 20 line", for those that list an edge twice, which only the reading of repeats allows;
+//! - `sheets/NAME`: what `slotsheet --repeats` prints for the list.
 
 use std::fs;
 use std::io;
@@ -40,10 +41,13 @@ fn main() -> io::Result<()> {
     paths.extend(lists_of(graphs)?);
     paths.extend(lists_of(examples)?);
     paths.sort_by_key(|path| path.file_stem().map(|name| name.to_owned()));
-    let (mut expected, mut refused) = (String::new(), String::new());
+    let (mut expected, mut refused, mut repeats) = (String::new(), String::new(), String::new());
     for path in paths {
         let name = path.file_stem().expect("a file").to_string_lossy().into_owned();
         let rows = load(&path)?;
+        if let Err(why) = list::read(&fs::read(&path)?, &mut [0; 64]) {
+            repeats += &format!("{name} {} {}\n", why.why.number(), why.place);
+        }
         let mut colours = vec![0; rows.len()];
         let mut again = colours.clone();
         let walked = described::fewest(&rows, &mut colours, BUDGET);
@@ -65,5 +69,6 @@ fn main() -> io::Result<()> {
         fs::write(folder.join("sheets").join(name), shown)?;
     }
     fs::write(folder.join("expected"), expected)?;
+    fs::write(folder.join("repeats"), repeats)?;
     fs::write(folder.join("refused"), refused)
 }

@@ -4,12 +4,13 @@ use std::collections::BTreeMap;
 
 use bench::lists::Numbers;
 use bench::{described, Walk};
+use second::list::Reading;
 use second::sheet::{self, Text};
 use second::{colouring, list, matrix, Refusal, Refused, BYTES};
 
-use crate::calls::{self, Lent, FILL};
-use crate::inputs::{colours, list_of, matrix as any_matrix, sample};
-use crate::stored::{lines, printed, stored, text};
+use crate::calls::{self, Calls, Lent, FILL, PLAIN, REPEATS};
+use crate::inputs::{colours, list_of, matrix as any_matrix, sample, Sample};
+use crate::stored::{lines, printed, repeated, stored, text};
 use crate::{cases, BUDGET};
 
 const ROW: u64 = 0xA5A5_A5A5_A5A5_A5A5;
@@ -88,18 +89,37 @@ fn longer_lists() {
     }
 }
 
-/// The stored lists, read by the library; of those whose walk is short, what the program prints. All of them are in one of the two files.
+/// The stored lists, all of which are in one of the two files, read by the library; of those whose walk is short, what the program prints. Those that list
+/// an edge twice are read where that is allowed, and the plain reading refuses each at the line of the second.
 #[test]
 fn stored_texts() {
+    let repeated = repeated();
     for (name, _, nodes) in lines("expected").into_iter().chain(lines("refused")) {
         let (text, rows) = (text(&name), stored(&name));
-        let mut lent = Lent::new(rows.len(), ROW);
-        assert_eq!(calls::read_list(&text, lent.part()), [0, 0, 0, rows.len()], "{name}");
-        assert_eq!(lent.part(), rows, "{name}");
-        if nodes < 10_000 {
+        for reading in [&PLAIN, &REPEATS] {
+            let (mut lent, mut again) = (Lent::new(rows.len(), ROW), Lent::new(rows.len(), ROW));
             let mut out = [0; slotsheet::SHEET_BYTES];
-            let [_, _, length] = calls::answer(&text, &mut out);
-            assert_eq!(out[..length], printed(&name), "{name}");
+            let said = (reading.read_list)(&text, lent.part());
+            match repeated.iter().find(|(known, _)| *known == name) {
+                Some(&(_, line)) if std::ptr::eq(reading, &PLAIN) => {
+                    assert_eq!(said, [20, line, 0, 0], "{name}");
+                    let [_, _, length] = (reading.answer)(&text, &mut out);
+                    assert_eq!(out[..length], *format!("refused 20 line {line}\n").as_bytes(), "{name}");
+                    let checked = (reading.check_sheet)(&text, &printed(&name), &mut [0; 64]);
+                    assert_eq!(checked, [20, line, 0, 0, 1], "{name}");
+                }
+                _ => {
+                    assert_eq!(said, [0, 0, 0, rows.len()], "{name}");
+                    again.part().copy_from_slice(&rows);
+                    if nodes < 10_000 {
+                        let [_, _, length] = (reading.answer)(&text, &mut out);
+                        assert_eq!(out[..length], printed(&name), "{name}");
+                        let checked = (reading.check_sheet)(&text, &out[..length], &mut [0; 64]);
+                        assert_eq!([checked[0], checked[4]], [0, 0], "{name}");
+                    }
+                }
+            }
+            assert_eq!(lent, again, "{name}");
         }
     }
 }
@@ -134,10 +154,10 @@ fn spent_walks() {
 }
 
 /// What the program prints for a text, by the second program's reading and writing and the walk that is written from document 01.
-fn printed_for(text: &[u8]) -> Vec<u8> {
+fn printed_for(read: Reading, text: &[u8]) -> Vec<u8> {
     let refused = |why: Refused| format!("{}\n", why.printed()).into_bytes();
     let (mut rows, mut colours, mut out) = ([0; 64], [0; 64], [0; slotsheet::SHEET_BYTES]);
-    let n = match list::read(text, &mut rows) {
+    let n = match read(text, &mut rows) {
         Ok(n) => n,
         Err(why) => return refused(why),
     };
@@ -149,11 +169,11 @@ fn printed_for(text: &[u8]) -> Vec<u8> {
 }
 
 /// The library's answer is what the program should print, in a buffer of that length, of one byte less and of some more.
-fn answered(text: &[u8]) {
-    let expected = printed_for(text);
+fn answered(calls: &Calls, read: Reading, text: &[u8]) {
+    let expected = printed_for(read, text);
     for room in [expected.len(), expected.len() - 1, expected.len() + 7] {
         let (mut lent, mut again) = (Lent::new(room, FILL), Lent::new(room, FILL));
-        let said = calls::answer(text, lent.part());
+        let said = (calls.answer)(text, lent.part());
         if room < expected.len() {
             assert_eq!(said, [19, 0, 0], "{text:?}");
         } else {
@@ -209,38 +229,51 @@ fn damaged_colours() {
     assert!([0, 1, 19, 38].iter().all(|number| met.get(number).is_some_and(|&times| times > cases(100))), "{met:?}");
 }
 
-/// Reading with 64 rows and with few; and checking, with the place of the line at fault: every refusal of both texts is met often.
+/// One reading of a sample, with 64 rows and with few, what is printed for it, and its check, with the place of the line at fault. What the check says is
+/// returned, behind what reading with 64 rows says.
+fn sampled(calls: &Calls, read: Reading, sample: &Sample) -> ([usize; 4], [usize; 5]) {
+    let mut whole = [0; 4];
+    for room in [sample.room, 64] {
+        let (mut lent, mut again) = (Lent::new(room, ROW), Lent::new(room, ROW));
+        whole = (calls.read_list)(&sample.list, lent.part());
+        assert_eq!(whole, read_numbers(read(&sample.list, again.part())), "{sample:?}");
+        assert_eq!(lent, again, "{sample:?}");
+    }
+    if whole[3] <= 12 {
+        answered(calls, read, &sample.list);
+    }
+    let (mut lent, mut again) = (Lent::new(sample.room, FILL), Lent::new(sample.room, FILL));
+    let said = (calls.check_sheet)(&sample.list, &sample.sheet, lent.part());
+    let expected = match sheet::check_by(read, &sample.list, &sample.sheet, again.part()) {
+        Ok(k) => [0, 0, 0, k, 0],
+        Err(fault) => {
+            let text = if fault.text == Text::List { 1 } else { 2 };
+            let [refusal, line, column, _] = read_numbers(Err(fault.refused));
+            [refusal, line, column, 0, text]
+        }
+    };
+    assert_eq!(said, expected, "{sample:?}");
+    assert_eq!(lent, again, "{sample:?}");
+    let part = sheet::preview_by(read, &sample.list, &sample.sheet, sample.room);
+    assert_eq!((calls.fault_line)(&sample.list, &sample.sheet, sample.room), [said[4], part.offset, part.length], "{sample:?}");
+    (whole, said)
+}
+
+/// Both readings of damaged texts: every refusal of both texts is met often. Where the plain reading refuses no repeat, the two are alike.
 #[test]
 fn damaged_texts_and_sheets() {
     let mut drawn = Numbers(45);
     let mut met = BTreeMap::new();
     for _ in 0..cases(20_000) {
         let sample = sample(&mut drawn);
-        for room in [64, sample.room] {
-            let (mut lent, mut again) = (Lent::new(room, ROW), Lent::new(room, ROW));
-            let said = calls::read_list(&sample.list, lent.part());
-            assert_eq!(said, read_numbers(list::read(&sample.list, again.part())), "{sample:?}");
-            assert_eq!(lent, again, "{sample:?}");
-            *met.entry((0, said[0])).or_insert(0) += 1;
-            if room == 64 && said[3] <= 12 {
-                answered(&sample.list);
-            }
+        let plain = sampled(&PLAIN, list::read, &sample);
+        let allowed = sampled(&REPEATS, list::read_repeats, &sample);
+        assert!(plain == allowed || plain.0[0] == 20 && allowed.0[0] != 20, "{sample:?}");
+        for (text, refusal) in [(0, plain.0[0]), (plain.1[4], plain.1[0]), (3, allowed.0[0])] {
+            *met.entry((text, refusal)).or_insert(0) += 1;
         }
-        let (mut lent, mut again) = (Lent::new(sample.room, FILL), Lent::new(sample.room, FILL));
-        let said = calls::check_sheet(&sample.list, &sample.sheet, lent.part());
-        let expected = match sheet::check(&sample.list, &sample.sheet, again.part()) {
-            Ok(k) => [0, 0, 0, k, 0],
-            Err(fault) => {
-                let text = if fault.text == Text::List { 1 } else { 2 };
-                let [refusal, line, column, _] = read_numbers(Err(fault.refused));
-                [refusal, line, column, 0, text]
-            }
-        };
-        assert_eq!(said, expected, "{sample:?}");
-        assert_eq!(lent, again, "{sample:?}");
-        let part = sheet::preview(&sample.list, &sample.sheet, sample.room);
-        assert_eq!(calls::fault_line(&sample.list, &sample.sheet, sample.room), [said[4], part.offset, part.length], "{sample:?}");
-        *met.entry((said[4], said[0])).or_insert(0) += 1;
+        let few = calls::read_list(&sample.list, Lent::new(sample.room, ROW).part());
+        *met.entry((0, few[0])).or_insert(0) += 1;
     }
     let often = |text, refusals: &[usize], times| {
         for &refusal in refusals {
@@ -250,10 +283,33 @@ fn damaged_texts_and_sheets() {
     often(0, &[0, 11, 12, 13, 14, 15, 16, 17, 18], 50);
     often(1, &[11, 12, 13, 14, 15, 16, 18], 50);
     often(2, &[5, 18, 30, 31, 32, 33, 34, 35, 36, 37], 50);
-    // The kinds of a line that is of no permitted shape.
-    often(0, &[10, 21, 22, 23], 500);
-    often(1, &[10, 21, 22, 23], 250);
+    // The kinds of a line that is of no permitted shape, and repeats.
+    often(0, &[10, 20, 21, 22, 23], 500);
+    often(1, &[10, 20, 21, 22, 23], 250);
+    often(3, &[0, 10, 14, 16, 21, 22, 23], 250);
+    assert!(!met.contains_key(&(3, 20)), "{met:?}");
 }
+
+/// The wrappers that read a clash text, by one reading.
+struct Wrappers {
+    read_list: fn(&[u8], &mut [u64]) -> Result<usize, slotsheet::Refused>,
+    check_sheet: fn(&[u8], &[u8], &mut [u8]) -> Result<usize, slotsheet::Fault>,
+    fault_line: for<'a> fn(&'a [u8], &'a [u8], usize) -> &'a [u8],
+    answer: fn(&[u8], &mut [u8]) -> Result<usize, slotsheet::Refused>,
+}
+
+const WRAPPED: Wrappers = Wrappers {
+    read_list: slotsheet::read_list,
+    check_sheet: slotsheet::check_sheet,
+    fault_line: slotsheet::fault_line,
+    answer: slotsheet::answer,
+};
+const WRAPPED_REPEATS: Wrappers = Wrappers {
+    read_list: slotsheet::read_list_repeats,
+    check_sheet: slotsheet::check_sheet_repeats,
+    fault_line: slotsheet::fault_line_repeats,
+    answer: slotsheet::answer_repeats,
+};
 
 /// The wrappers say what the calls say.
 #[test]
@@ -285,19 +341,24 @@ fn safe_wrappers() {
             assert_eq!(said, walk.1(&rows, &mut again[..60], 30));
         }
         let sample = sample(&mut drawn);
-        assert_eq!(read(slotsheet::read_list(&sample.list, &mut [0; 64])), calls::read_list(&sample.list, &mut [0; 64]));
-        let said = match slotsheet::check_sheet(&sample.list, &sample.sheet, &mut out[..sample.room]) {
-            Ok(k) => [0, 0, 0, k, 0],
-            Err(fault) => {
-                let [refusal, line, column, _] = read(Err(fault.refused));
-                [refusal, line, column, 0, if fault.text == slotsheet::Text::List { 1 } else { 2 }]
+        for (wrappers, calls) in [(&WRAPPED, &PLAIN), (&WRAPPED_REPEATS, &REPEATS)] {
+            assert_eq!(read((wrappers.read_list)(&sample.list, &mut [0; 64])), (calls.read_list)(&sample.list, &mut [0; 64]));
+            let said = match (wrappers.check_sheet)(&sample.list, &sample.sheet, &mut out[..sample.room]) {
+                Ok(k) => [0, 0, 0, k, 0],
+                Err(fault) => {
+                    let [refusal, line, column, _] = read(Err(fault.refused));
+                    [refusal, line, column, 0, if fault.text == slotsheet::Text::List { 1 } else { 2 }]
+                }
+            };
+            assert_eq!(said, (calls.check_sheet)(&sample.list, &sample.sheet, &mut again[..sample.room]));
+            let [text, start, length] = (calls.fault_line)(&sample.list, &sample.sheet, sample.room);
+            let holder = if text == 1 { &sample.list } else { &sample.sheet };
+            let shown = (wrappers.fault_line)(&sample.list, &sample.sheet, sample.room);
+            assert_eq!(shown.as_ptr_range(), holder[start..start + length].as_ptr_range());
+            if sample.list.len() < 100 {
+                assert_eq!(same((wrappers.answer)(&sample.list, &mut out)), (calls.answer)(&sample.list, &mut again));
             }
-        };
-        assert_eq!(said, calls::check_sheet(&sample.list, &sample.sheet, &mut again[..sample.room]));
-        let [text, start, length] = calls::fault_line(&sample.list, &sample.sheet, sample.room);
-        let holder = if text == 1 { &sample.list } else { &sample.sheet };
-        let shown = slotsheet::fault_line(&sample.list, &sample.sheet, sample.room);
-        assert_eq!(shown.as_ptr_range(), holder[start..start + length].as_ptr_range());
+        }
         let given = colours(&mut drawn);
         assert_eq!(same(slotsheet::write_sheet(&given, &mut out)), calls::write_sheet(&given, &mut again));
         assert_eq!(out, again);

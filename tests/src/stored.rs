@@ -25,6 +25,11 @@ pub fn stored(name: &str) -> Vec<u64> {
     load(&path(name)).expect("a list")
 }
 
+/// The stored lists that list an edge twice, and the line of the first that stands a second time.
+pub fn repeated() -> Vec<(String, usize)> {
+    lines("repeats").into_iter().map(|(name, _, line)| (name, line as usize)).collect()
+}
+
 /// The text of a stored list by its name.
 pub fn text(name: &str) -> Vec<u8> {
     fs::read(path(name)).expect("stored")
@@ -49,7 +54,7 @@ pub fn lines(file: &str) -> Vec<(String, u64, u64)> {
 /// complement of a cube (hamming6-2) by a perfect matching.
 #[rustfmt::skip]
 const KNOWN: [(&str, usize); 20] = [
-    ("myciel3", 4), ("myciel4", 5), ("myciel4-comments", 5), ("johnson8-2-4-comments", 6), ("myciel5", 6), ("queen5_5", 5), ("queen5_5-both-ways", 5), ("queen6_6", 7), ("queen7_7", 7),
+    ("myciel3", 4), ("myciel4", 5), ("myciel4-comments", 5), ("johnson8-2-4-comments", 6), ("myciel5", 6), ("queen5_5", 5), ("queen5_5-once", 5), ("queen6_6", 7), ("queen7_7", 7),
     ("queen8_8", 9), ("1-FullIns_3", 4), ("2-FullIns_3", 5), ("1-Insertions_3", 4), ("2-Insertions_3", 4), ("3-Insertions_3", 4),
     ("johnson8-2-4", 6), ("hamming6-2", 32), ("edgeless64", 1), ("complete64", 64), ("petersen10", 3),
 ];
@@ -112,6 +117,34 @@ fn lists_are_those_made() {
     for (name, rows) in lists::all() {
         let text = fs::read_to_string(folder("walks").join(format!("{name}.col"))).expect("stored");
         assert_eq!(text, list::text_of(&rows), "{name}");
+    }
+}
+
+/// Which lists list an edge twice, and where: by the text alone, word for word. The queens' and two camps list each edge both ways.
+#[test]
+fn repeats_are_those_listed() {
+    let mut found = Vec::new();
+    for (name, _, _) in lines("expected").into_iter().chain(lines("refused")) {
+        let text = String::from_utf8_lossy(&text(&name)).into_owned();
+        let mut edges = Vec::new();
+        let line = text.lines().position(|line| {
+            let words: Vec<&str> = line.split(' ').collect();
+            let [_, u, v] = words[..] else { return false };
+            let edge = [u.min(v).to_string(), u.max(v).to_string()];
+            let again = line.starts_with("e ") && edges.contains(&edge);
+            edges.push(edge);
+            again
+        });
+        found.extend(line.map(|before| (name, before + 1)));
+    }
+    found.sort();
+    assert_eq!(found, repeated());
+    let names: Vec<&str> = found.iter().map(|(name, _)| name.as_str()).collect();
+    assert_eq!(names, ["queen5_5", "queen6_6", "queen7_7", "queen8_8", "riding-camp", "sailing-camp"]);
+    for name in names {
+        let text = String::from_utf8(text(name)).expect("letters");
+        let edges: Vec<Vec<&str>> = text.lines().filter(|line| line.starts_with("e ")).map(|line| line[2..].split(' ').collect()).collect();
+        assert!(edges.iter().all(|edge| edges.contains(&vec![edge[1], edge[0]])), "{name}");
     }
 }
 

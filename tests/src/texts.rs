@@ -3,6 +3,7 @@
 use std::collections::BTreeMap;
 
 use bench::lists::Numbers;
+use second::list::Reading;
 use second::sheet::{self, Part, Text};
 use second::{list, matrix, Refusal};
 
@@ -76,9 +77,13 @@ fn damaged_samples() {
     for _ in 0..cases(20_000) {
         let sample = sample(&mut numbers);
         for room in [64, sample.room] {
-            let (mut rows, mut again) = (vec![7; room], vec![7; room]);
-            assert_eq!(list::read(&sample.list, &mut rows), bench::reading::read(&sample.list, &mut again));
-            assert_eq!(rows, again);
+            for (read, other) in
+                [(list::read as Reading, bench::reading::read as Reading), (list::read_repeats, bench::reading::read_repeats)]
+            {
+                let (mut rows, mut again) = (vec![7; room], vec![7; room]);
+                assert_eq!(read(&sample.list, &mut rows), other(&sample.list, &mut again));
+                assert_eq!(rows, again);
+            }
         }
         let mut lent = vec![0xA5; sample.room];
         let checked = sheet::check(&sample.list, &sample.sheet, &mut lent);
@@ -108,7 +113,7 @@ fn damaged_samples() {
         };
         *met.entry(number).or_insert(0) += 1;
     }
-    for number in [10, 21, 22, 23] {
+    for number in [10, 20, 21, 22, 23] {
         assert!(met.get(&(number, 0)).is_some_and(|&times| times > cases(250)), "{number} of a list: {met:?}");
     }
     for number in [11, 12, 13, 14, 15, 16, 18] {
@@ -166,4 +171,36 @@ fn lines_go_bad_everywhere() {
         assert!(times >= cases(12), "{before:?} {byte} {number} is met {times} times: {met:?}");
     }
     assert_eq!(met.len(), places.iter().collect::<std::collections::BTreeSet<_>>().len(), "{met:?}");
+}
+
+/// The two readings: where the plain one refuses no repeat, they are alike; and a repeat that it refuses is one: the same edge stands in an earlier line,
+/// which no earlier line's does.
+#[test]
+fn readings_differ_by_repeats_alone() {
+    let mut numbers = Numbers(16);
+    let mut met = BTreeMap::new();
+    let edge = |line: &[u8]| -> Option<Vec<usize>> {
+        let ends = std::str::from_utf8(line).ok()?.strip_prefix("e ")?.split(' ').map(|end| end.parse().ok());
+        let mut ends: Vec<usize> = ends.collect::<Option<_>>()?;
+        ends.sort_unstable();
+        Some(ends)
+    };
+    for _ in 0..cases(20_000) {
+        let text = sample(&mut numbers).list;
+        let (mut plain, mut allowed) = ([7; 64], [7; 64]);
+        let said = [list::read(&text, &mut plain), list::read_repeats(&text, &mut allowed)];
+        let refusal = said[0].err().map_or(0, |refused| refused.why.number());
+        if refusal == 20 {
+            assert_eq!(plain, [7; 64]);
+            let line = said[0].expect_err("refused").place as usize;
+            let edges: Vec<_> = text.split(|&b| b == b'\n').take(line).map(edge).collect();
+            let first = (0..line).find(|&at| edges[at].is_some() && edges[..at].contains(&edges[at]));
+            assert_eq!(first, Some(line - 1));
+            *met.entry((20, said[1].is_ok())).or_insert(0) += 1;
+        } else {
+            assert_eq!((said[0], plain), (said[1], allowed));
+            *met.entry((refusal, said[1].is_ok())).or_insert(0) += 1;
+        }
+    }
+    assert!([(0, true), (20, true), (20, false)].iter().all(|what| met.get(what).is_some_and(|&times| times > cases(250))), "{met:?}");
 }

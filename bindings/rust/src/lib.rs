@@ -3,6 +3,9 @@
 //! A list of n entries (0 to 64) is n rows; bit j of row i says that entries i and j clash. Groups are numbered from 0 by smallest member. A
 //! refused call writes nothing; an accepted one writes what its own words say, and nothing beside it.
 //!
+//! A clash text names each edge once: the plain calls refuse one that stands a second time, either way round, as 20. Those whose names end in
+//! `_repeats` allow it, for lists whose exporter names each clash both ways; they are the same in everything else.
+//!
 //! ```
 //! let text = b"p edge 3 2\ne 1 2\ne 2 3\n";
 //! let mut rows = [0; slotsheet::ENTRIES];
@@ -154,12 +157,29 @@ pub fn plain(rows: &[u64], colours: &mut [u8], budget: u64) -> Result<Walked, Re
     walked(unsafe { raw::slotsheet_plain(rows.as_ptr(), rows.len(), colours.as_mut_ptr(), colours.len(), budget) })
 }
 
-/// Reads a clash text: 18, then 10 to 17 and 21 to 23, each with its line, and 10, 21, 22 and 23 with their column. Writes the first n rows and
+fn read(said: raw::Reading) -> Result<usize, Refused> {
+    told_at(said.refusal, said.line as u64, said.column, said.entries)
+}
+
+/// Reads a clash text: 18, then 10 to 17 and 20 to 23, each with its line, and 10, 21, 22 and 23 with their column. Writes the first n rows and
 /// returns n.
 pub fn read_list(text: &[u8], rows: &mut [u64]) -> Result<usize, Refused> {
     // SAFETY: as in `validity`.
-    let said = unsafe { raw::slotsheet_read_list(text.as_ptr(), text.len(), rows.as_mut_ptr(), rows.len()) };
-    told_at(said.refusal, said.line as u64, said.column, said.entries)
+    read(unsafe { raw::slotsheet_read_list(text.as_ptr(), text.len(), rows.as_mut_ptr(), rows.len()) })
+}
+
+/// The same, and an edge may stand a second time.
+///
+/// ```
+/// let text = b"p edge 2 2\ne 1 2\ne 2 1\n";
+/// let mut rows = [0; 2];
+/// assert_eq!(slotsheet::read_list(text, &mut rows).unwrap_err().why, slotsheet::Refusal::Repeat);
+/// assert_eq!(slotsheet::read_list_repeats(text, &mut rows), Ok(2));
+/// assert_eq!(rows, [2, 1]);
+/// ```
+pub fn read_list_repeats(text: &[u8], rows: &mut [u64]) -> Result<usize, Refused> {
+    // SAFETY: as in `validity`.
+    read(unsafe { raw::slotsheet_read_list_repeats(text.as_ptr(), text.len(), rows.as_mut_ptr(), rows.len()) })
 }
 
 /// Writes a list's clash text and returns its length: 1 to 4, 19.
@@ -193,13 +213,36 @@ pub fn answer(text: &[u8], out: &mut [u8]) -> Result<usize, Refused> {
     told(said.refusal, said.place as u64, said.length)
 }
 
-/// Checks a sheet against a list: the list's refusals, 5, then the sheet's. Writes each entry's group number and returns k.
-pub fn check_sheet(list: &[u8], sheet: &[u8], colours: &mut [u8]) -> Result<usize, Fault> {
+/// The same for `slotsheet --repeats`: an edge may stand a second time.
+pub fn answer_repeats(text: &[u8], out: &mut [u8]) -> Result<usize, Refused> {
     // SAFETY: as in `validity`.
-    let said =
-        unsafe { raw::slotsheet_check_sheet(list.as_ptr(), list.len(), sheet.as_ptr(), sheet.len(), colours.as_mut_ptr(), colours.len()) };
+    let said = unsafe { raw::slotsheet_answer_repeats(text.as_ptr(), text.len(), out.as_mut_ptr(), out.len()) };
+    told(said.refusal, said.place as u64, said.length)
+}
+
+fn checked(said: raw::Checking) -> Result<usize, Fault> {
     let text = if said.text == 1 { Text::List } else { Text::Sheet };
     told_at(said.refusal, said.line as u64, said.column, said.groups).map_err(|refused| Fault { text, refused })
+}
+
+/// Checks a sheet against a list: the list's refusals, 5, then the sheet's. Writes each entry's group number and returns k.
+pub fn check_sheet(list: &[u8], sheet: &[u8], colours: &mut [u8]) -> Result<usize, Fault> {
+    let (room, lent) = (colours.len(), colours.as_mut_ptr());
+    // SAFETY: as in `validity`.
+    checked(unsafe { raw::slotsheet_check_sheet(list.as_ptr(), list.len(), sheet.as_ptr(), sheet.len(), lent, room) })
+}
+
+/// The same, and an edge of the list may stand a second time.
+pub fn check_sheet_repeats(list: &[u8], sheet: &[u8], colours: &mut [u8]) -> Result<usize, Fault> {
+    let (room, lent) = (colours.len(), colours.as_mut_ptr());
+    // SAFETY: as in `validity`.
+    checked(unsafe { raw::slotsheet_check_sheet_repeats(list.as_ptr(), list.len(), sheet.as_ptr(), sheet.len(), lent, room) })
+}
+
+/// What a part is of its text.
+fn shown<'a>(said: raw::Part, list: &'a [u8], sheet: &'a [u8]) -> &'a [u8] {
+    let text = if said.text == 1 { list } else { sheet };
+    &text[said.start..said.start + said.length]
 }
 
 /// The line at fault in a check with so many colour bytes, without its line feed, as a part of the text that holds it: empty at that text's end
@@ -213,6 +256,12 @@ pub fn check_sheet(list: &[u8], sheet: &[u8], colours: &mut [u8]) -> Result<usiz
 pub fn fault_line<'a>(list: &'a [u8], sheet: &'a [u8], room: usize) -> &'a [u8] {
     // SAFETY: as in `validity`.
     let said = unsafe { raw::slotsheet_fault_line(list.as_ptr(), list.len(), sheet.as_ptr(), sheet.len(), room) };
-    let text = if said.text == 1 { list } else { sheet };
-    &text[said.start..said.start + said.length]
+    shown(said, list, sheet)
+}
+
+/// The same for [`check_sheet_repeats`].
+pub fn fault_line_repeats<'a>(list: &'a [u8], sheet: &'a [u8], room: usize) -> &'a [u8] {
+    // SAFETY: as in `validity`.
+    let said = unsafe { raw::slotsheet_fault_line_repeats(list.as_ptr(), list.len(), sheet.as_ptr(), sheet.len(), room) };
+    shown(said, list, sheet)
 }

@@ -60,6 +60,7 @@ extern "C" {
     pub fn slotsheet_fewest(rows: *const u64, rows_length: usize, colours: *mut u8, colours_length: usize, budget: u64) -> Walk;
     pub fn slotsheet_plain(rows: *const u64, rows_length: usize, colours: *mut u8, colours_length: usize, budget: u64) -> Walk;
     pub fn slotsheet_read_list(text: *const u8, text_length: usize, rows: *mut u64, rows_length: usize) -> Reading;
+    pub fn slotsheet_read_list_repeats(text: *const u8, text_length: usize, rows: *mut u64, rows_length: usize) -> Reading;
     pub fn slotsheet_write_list(rows: *const u64, rows_length: usize, out: *mut u8, out_length: usize) -> Writing;
     pub fn slotsheet_write_sheet(colours: *const u8, colours_length: usize, out: *mut u8, out_length: usize) -> Writing;
     pub fn slotsheet_check_sheet(
@@ -70,6 +71,16 @@ extern "C" {
         colours: *mut u8,
         colours_length: usize,
     ) -> Checking;
+    pub fn slotsheet_check_sheet_repeats(
+        list: *const u8,
+        list_length: usize,
+        sheet: *const u8,
+        sheet_length: usize,
+        colours: *mut u8,
+        colours_length: usize,
+    ) -> Checking;
     pub fn slotsheet_fault_line(list: *const u8, list_length: usize, sheet: *const u8, sheet_length: usize, room: usize) -> Part;
+    pub fn slotsheet_fault_line_repeats(list: *const u8, list_length: usize, sheet: *const u8, sheet_length: usize, room: usize) -> Part;
     pub fn slotsheet_answer(text: *const u8, text_length: usize, out: *mut u8, out_length: usize) -> Writing;
+    pub fn slotsheet_answer_repeats(text: *const u8, text_length: usize, out: *mut u8, out_length: usize) -> Writing;
 }

@@ -3,7 +3,7 @@
 use crate::refusal::Beside;
 
 /// The version of the interface.
-pub const VERSION: &str = "2.1.0";
+pub const VERSION: &str = "3.0.0";
 /// The most entries of a list.
 pub const ENTRIES: usize = 64;
 /// The most bytes of a text that is read.
@@ -54,6 +54,8 @@ pub enum Refusal {
     Long = 18,
     /// Output buffer too small for the whole text.
     Full = 19,
+    /// An edge that stands a second time, either way round, where repeats are not allowed: line of the second.
+    Repeat = 20,
     /// Where a number must start and no digit stands, or a digit after a leading zero or a seventh digit.
     Digit = 21,
     /// Another byte, or a stop, where a space or the line's end could have followed a word or a number.
@@ -88,7 +90,7 @@ pub(crate) struct Row {
 }
 
 #[rustfmt::skip]
-pub(crate) const TABLE: [Row; 29] = [
+pub(crate) const TABLE: [Row; 30] = [
     Row { refusal: Refusal::Many, name: "MANY", beside: Beside::Nothing, sentence: "there are more than 64 entries" },
     Row { refusal: Refusal::Stray, name: "STRAY", beside: Beside::Row, sentence: "entry {next} is marked as clashing with an entry that the list does not have (row {place})" },
     Row { refusal: Refusal::Itself, name: "SELF", beside: Beside::Row, sentence: "entry {next} is marked as clashing with itself (row {place})" },
@@ -106,6 +108,7 @@ pub(crate) const TABLE: [Row; 29] = [
     Row { refusal: Refusal::Room, name: "ROOM", beside: Beside::Line, sentence: "line {place}: this line states more entries than there is room for" },
     Row { refusal: Refusal::Long, name: "LONG", beside: Beside::Nothing, sentence: "the text is longer than 65,536 bytes" },
     Row { refusal: Refusal::Full, name: "FULL", beside: Beside::Nothing, sentence: "there is too little room to write the whole text" },
+    Row { refusal: Refusal::Repeat, name: "REPEAT", beside: Beside::Line, sentence: "line {place}: this clash stands in an earlier line already, the same or the other way round" },
     Row { refusal: Refusal::Digit, name: "DIGIT", beside: Beside::Spot, sentence: "line {place}, column {column}: here a number must start, and there is none; or a number goes on here after a leading 0 or its seventh digit" },
     Row { refusal: Refusal::Space, name: "SPACE", beside: Beside::Spot, sentence: "line {place}, column {column}: here, after a word or a number, one space or the line's end must come, and there is something else (it may not be visible), or the line stops" },
     Row { refusal: Refusal::Unended, name: "UNENDED", beside: Beside::Spot, sentence: "line {place}, column {column}: the last line stops here without its line end" },
