@@ -43,10 +43,10 @@ module _ (plain : Bool) (text lent : List ℕ) (n : ℕ) (rows : List ℕ) (x : 
       ∙ ap rowsText (sym (rows-are plain mostEntries longestText text lent n rows x))
 
   -- the sheet of the division that the walk left, which the demands speak of (crates/walk/proofs/Demands.antt)
-  pub sheet-printed : (before : List ℕ) (k m l : ℕ) (after : List ℕ) → Promised (boundedWalk mycielskian) (take n rows) before budget (Accepted k m l) after
+  pub sheet-printed : (before : List ℕ) (k m l c : ℕ) (after : List ℕ) → Promised (boundedWalk mycielskian) (take n rows) before budget (Accepted k m l c) after
       → printed plain text ≡ sheetText (take n after)
-  sheet-printed before k m l after p =
-      list-printed ∙ rows-accepted (take n rows) before k m l after p ∙ ap (λ (i : ℕ). sheetText (take i after)) (rows-count plain text lent n rows x)
+  sheet-printed before k m l c after p =
+      list-printed ∙ rows-accepted (take n rows) before k m l c after p ∙ ap (λ (i : ℕ). sheetText (take i after)) (rows-count plain text lent n rows x)
 
   pub spent-printed : (before : List ℕ) (m : ℕ) (after : List ℕ) → Promised (boundedWalk mycielskian) (take n rows) before budget (Budget m) after
       → printed plain text ≡ refusedText (numberOf refusal.Budget) 0 0

@@ -235,10 +235,10 @@ module _ (rows before : List ℕ) where
   abbrev spent : List ℕ
   spent = refusedText (numberOf refusal.Budget) 0 0
 
-  pub rows-accepted : (k m l : ℕ) (after : List ℕ) → Promised (boundedWalk mycielskian) rows before budget (Accepted k m l) after
+  pub rows-accepted : (k m l c : ℕ) (after : List ℕ) → Promised (boundedWalk mycielskian) rows before budget (Accepted k m l c) after
       → rowsText rows ≡ sheetText (take (length rows) after)
   unfolding rowsText
-  rows-accepted k m l after p =
+  rows-accepted k m l c after p =
       ap (λ (b : Bool). cond b (sheetText (w .best)) spent) (le-leb (w .nodes) budget (omega (arith, p .count, p .paid))) ∙ ap sheetText (sym (p .best))
 
   pub rows-spent : budget < w .nodes → rowsText rows ≡ spent

@@ -55,7 +55,7 @@ fn of_rows(rows: &[u64]) -> Composed
 {
     let mut colours = [0u8; 64];
     let a = walk::fewest(rows, &mut colours, BUDGET);
-    if let Answer::Accepted(k, _nodes, _leaves) = a {
+    if let Answer::Accepted(k, _nodes, _leaves, _clique) = a {
         let n = rows.len();
         return compose(&colours[..n], k);
     }

@@ -15,12 +15,15 @@ use Rattle.graphs.proofs.HeldLaws.{held-vertices}
 use Rattle.graphs.proofs.LoopLaws.{size-le}
 use Rattle.cliques.specs.Clique.{clique}
 use Rattle.cliques.specs.Growth.{IsSetOf}
-use Rattle.cliques.proofs.CliqueLaws as cliques
-use Rattle.cliques.proofs.WordLaws.{size-length}
+use Rattle.cliques.proofs.WordLaws.{setOf-one}
 use Rattle.mycielski.specs.Rounds
 use Rattle.mycielski.specs.Words.{Climbs}
-use Rattle.bounds.specs.Names.{cliqueBound, mycielskian, clique-is, mycielskian-is}
+use Rattle.bounds.specs.Names.{cliqueSet, mycielskian, clique-set-is, mycielskian-is}
 use Rattle.bounds.proofs.BoundLaws.{mycielskian-vertices}
+
+-- the set that has the clique's members is the named one
+pub clique-named : (n : ℕ) (g : Graph) (w : ℕ) → IsSetOf (clique n g) w → w ≡ cliqueSet n g
+clique-named n g w q = setOf-one (clique n g) w q ∙ sym (clique-set-is n g)
 
 module _ {cap : ℕ} (h : Node) (k : HeldAt cap h) where
   abbrev g : Graph
@@ -28,9 +31,6 @@ module _ {cap : ℕ} (h : Node) (k : HeldAt cap h) where
 
   abbrev n : ℕ
   n = h .n
-
-  pub clique-size : (w : ℕ) → IsSetOf (clique n g) w → size cap w ≡ cliqueBound n g
-  clique-size w q = size-length cap n g (clique n g) w (k .few) (cliques.clique-is n g (k .good)) q ∙ sym (clique-is n g)
 
   -- no bound is above the number of live vertices
   most : mycielskian n g ≤ size cap (h .live)

@@ -9,25 +9,27 @@ use mycielski::bound_up_to;
 use sets::size;
 ghost use mathlib.Core.Path.{_≡_};
 ghost use lib.Dec.{leb};
+ghost use Rattle.clashes.specs.Matrix.{Sound};
 ghost use Rattle.graphs.specs.Held.{view, Held, Holds, Each};
-ghost use Rattle.bounds.specs.Names.{cliqueBound, mycielskian};
-ghost use Rattle.bounds.specs.Lent.{answerOf, Answers};
+ghost use Rattle.bounds.specs.Names.{cliqueSet, cliqueBound, mycielskian};
+ghost use Rattle.bounds.specs.Lent.{ofList, answerOf, noMembers, Answers};
 
-// A bound of a lent matrix, or document 01's refusals 1 to 4 with the lowest row at fault.
+// A bound of a lent matrix, with the members of the clique where it is that one's size; or document 01's refusals 1 to 4 with the lowest row at fault.
 pub enum Bound {
-    At(usize),
+    At(usize, u64),
     Many,
     Stray(usize),
     Itself(usize),
     OneSided(usize),
 }
 
-// The clique bound of a node.
-pub fn clique_at(h: Node) -> usize
-    requires { ⌜ Held h ⌝ }
-    ensures { λ r. ⌜ r ≡ cliqueBound (h .n) (view h) ⌝ }
+// The clique of a list's graph, as the set of its members.
+pub fn clique_of(rows: &[u64]) -> u64
+    requires { ⌜ Sound (now rows) ⌝ }
+    ensures { λ r. ⌜ r ≡ ofList cliqueSet (now (rows .entry)) ⌝ }
 {
-    size(clique(h))
+    let h = root(rows);
+    clique(h)
 }
 
 // The Mycielskian bound of a node: none is above 64.
@@ -51,10 +53,10 @@ pub fn reaches(live: u64, rows: &[u64; 64], best: usize) -> bool
 
 // The answer for rows that are no list, which has no bound.
 fn unbounded(v: Verdict) -> Bound
-    ensures { λ r. ⌜ r ≡ answerOf v 0 ⌝ }
+    ensures { λ r. ⌜ r ≡ answerOf v 0 0 ⌝ }
 {
     match v {
-        Verdict::Valid => Bound::At(0),
+        Verdict::Valid => Bound::At(0, 0),
         Verdict::Many => Bound::Many,
         Verdict::Stray(row) => Bound::Stray(row),
         Verdict::Itself(row) => Bound::Itself(row),
@@ -62,24 +64,25 @@ fn unbounded(v: Verdict) -> Bound
     }
 }
 
-// The clique bound of a lent matrix.
+// The clique bound of a lent matrix, and the clique's members.
 pub fn clique_bound(rows: &[u64]) -> Bound
-    ensures { λ r. ⌜ Answers cliqueBound (now (rows .entry)) r ⌝ }
+    ensures { λ r. ⌜ Answers cliqueBound cliqueSet (now (rows .entry)) r ⌝ }
 {
     let v = validity(rows);
     if let Verdict::Valid = v {
-        return Bound::At(clique_at(root(rows)));
+        let members = clique_of(rows);
+        return Bound::At(size(members), members);
     }
     unbounded(v)
 }
 
 // The Mycielskian bound of a lent matrix.
 pub fn mycielskian_bound(rows: &[u64]) -> Bound
-    ensures { λ r. ⌜ Answers mycielskian (now (rows .entry)) r ⌝ }
+    ensures { λ r. ⌜ Answers mycielskian noMembers (now (rows .entry)) r ⌝ }
 {
     let v = validity(rows);
     if let Verdict::Valid = v {
-        return Bound::At(mycielskian_at(root(rows)));
+        return Bound::At(mycielskian_at(root(rows)), 0);
     }
     unbounded(v)
 }

@@ -4,7 +4,8 @@ use mathlib.Core.Path.{_≡_, sym, ap, _∙_}
 use mathlib.Core.List.{List}
 use mathlib.Core.Bool.{Bool}
 use Prim.Native.Nat.{ℕ}
-use Rattle.bounds.specs.Names.{cliqueBound, mycielskian}
+use Rattle.bounds.specs.Names.{cliqueSet, cliqueBound, mycielskian}
+use Rattle.bounds.specs.Lent.{noMembers}
 use Rattle.zykov.specs.Walk.{boundedWalk, plainWalk}
 use Rattle.sittings.specs.Numbers.{verdictNumbers, boundNumbers, walkNumbers, readNumbers, listNumbers, sheetNumbers, checkNumbers, partNumbers, printedNumbers}
 use Rattle.sittings.specs.declared.numbers.VerdictNumbers.{VerdictNumbers}
@@ -29,10 +30,10 @@ call-unique f x y u = (numbers-unique f x y (u .0), u .1)
 pub validity-unique : (rows : List ℕ) (r q : VerdictNumbers) → ValidityCall rows r → ValidityCall rows q → r ≡ q
 validity-unique rows r q x y = numbers-unique verdictNumbers (x .numbers) (y .numbers) (face.validity-unique rows (x .answer) (y .answer) (x .promised) (y .promised))
 
-pub clique-unique : (rows : List ℕ) (r q : BoundNumbers) → BoundCall cliqueBound rows r → BoundCall cliqueBound rows q → r ≡ q
+pub clique-unique : (rows : List ℕ) (r q : BoundNumbers) → BoundCall cliqueBound cliqueSet rows r → BoundCall cliqueBound cliqueSet rows q → r ≡ q
 clique-unique rows r q x y = numbers-unique boundNumbers (x .numbers) (y .numbers) (face.clique-unique rows (x .answer) (y .answer) (x .promised) (y .promised))
 
-pub mycielskian-unique : (rows : List ℕ) (r q : BoundNumbers) → BoundCall mycielskian rows r → BoundCall mycielskian rows q → r ≡ q
+pub mycielskian-unique : (rows : List ℕ) (r q : BoundNumbers) → BoundCall mycielskian noMembers rows r → BoundCall mycielskian noMembers rows q → r ≡ q
 mycielskian-unique rows r q x y = numbers-unique boundNumbers (x .numbers) (y .numbers) (face.mycielskian-unique rows (x .answer) (y .answer) (x .promised) (y .promised))
 
 pub fault-line-unique : (plain : Bool) (list sheet : List ℕ) (room : ℕ) (r q : PartNumbers) → PartCall plain list sheet room r

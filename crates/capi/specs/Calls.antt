@@ -41,9 +41,9 @@ pub record ValidityCall (rows : List ℕ) (r : VerdictNumbers) : Type 0 where
   pub promised : Judged rows answer
   pub numbers : r ≡ verdictNumbers answer
 
-pub record BoundCall (f : ℕ → Graph → ℕ) (rows : List ℕ) (r : BoundNumbers) : Type 0 where
+pub record BoundCall (f s : ℕ → Graph → ℕ) (rows : List ℕ) (r : BoundNumbers) : Type 0 where
   pub answer : Bound
-  pub promised : Answers f rows answer
+  pub promised : Answers f s rows answer
   pub numbers : r ≡ boundNumbers answer
 
 pub record WalkCall (walk : ℕ → (ℕ → ℕ → Bool) → State) (rows before : List ℕ) (budget : ℕ) (r : WalkNumbers) (after : List ℕ) : Type 0 where

@@ -8,7 +8,8 @@ use sittings::numbers::VerdictNumbers;
 use sittings::numbers::WalkNumbers;
 use sittings::numbers::WriteNumbers;
 ghost use mathlib.Core.Bool.{true, false};
-ghost use Rattle.bounds.specs.Names.{cliqueBound, mycielskian};
+ghost use Rattle.bounds.specs.Names.{cliqueSet, cliqueBound, mycielskian};
+ghost use Rattle.bounds.specs.Lent.{noMembers};
 ghost use Rattle.zykov.specs.Walk.{boundedWalk, plainWalk};
 ghost use Rattle.capi.specs.Calls.{ValidityCall, BoundCall, WalkCall, ReadCall, ListCall, SheetCall, CheckCall, PartCall, AnswerCall};
 
@@ -22,7 +23,7 @@ pub extern "C" fn slotsheet_validity(rows: &[u64]) -> VerdictNumbers
 
 #[no_mangle]
 pub extern "C" fn slotsheet_clique_bound(rows: &[u64]) -> BoundNumbers
-    ensures { λ r. ⌜ BoundCall cliqueBound (now (rows .entry)) r ⌝ }
+    ensures { λ r. ⌜ BoundCall cliqueBound cliqueSet (now (rows .entry)) r ⌝ }
 {
     let a = sittings::clique_bound(rows);
     sittings::numbers::of_bound(a)
@@ -30,7 +31,7 @@ pub extern "C" fn slotsheet_clique_bound(rows: &[u64]) -> BoundNumbers
 
 #[no_mangle]
 pub extern "C" fn slotsheet_mycielskian_bound(rows: &[u64]) -> BoundNumbers
-    ensures { λ r. ⌜ BoundCall mycielskian (now (rows .entry)) r ⌝ }
+    ensures { λ r. ⌜ BoundCall mycielskian noMembers (now (rows .entry)) r ⌝ }
 {
     let a = sittings::mycielskian_bound(rows);
     sittings::numbers::of_bound(a)

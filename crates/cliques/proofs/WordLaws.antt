@@ -12,11 +12,11 @@ use Rattle.sets.specs.Set.{has, size, IsWith, IsMeet, IsLowest}
 use Rattle.sets.proofs.TestLaws.{and-l, and-r, and-t, or-turn, T→true, T-ext, eqb-turn}
 use Rattle.sets.proofs.ListLaws.{count-lt, In-table}
 use Rattle.sets.proofs.MemberLaws.{members-count, members-none, In-members, members-In, members-noDup}
-use Rattle.sets.proofs.SetLaws.{has-none}
+use Rattle.sets.proofs.SetLaws.{has-none, with-is, same-members}
 use Rattle.graphs.specs.Graph.{Graph, live}
 use Rattle.graphs.specs.Held.{view, HeldAt}
 use Rattle.graphs.specs.declared.Node.{Node}
-use Rattle.cliques.specs.Clique.{isIn, admits, IsClique}
+use Rattle.cliques.specs.Clique.{isIn, admits, setOf, IsClique}
 use Rattle.cliques.specs.Growth.{IsSetOf, elements, scan, Grown, GrowsAt, Within}
 use Rattle.cliques.specs.declared.Growth.{Growth}
 use Rattle.cliques.proofs.ListLaws.{in-of, of-in, length-same}
@@ -29,6 +29,14 @@ with-isIn c s v r p q x = q x ∙ ap₂ (λ (a b : Bool). a || b) (p x) (eqb-tur
 
 pub none-isIn : IsSetOf [] 0
 none-isIn x = has-none x
+
+-- a list has one set
+pub setOf-is : (c : List ℕ) → IsSetOf c (setOf c)
+setOf-is [] = none-isIn
+setOf-is (x ∷ c) = with-isIn c (setOf c) x (setOf (x ∷ c)) (setOf-is c) (with-is (setOf c) x)
+
+pub setOf-one : (c : List ℕ) (w : ℕ) → IsSetOf c w → w ≡ setOf c
+setOf-one c w p = same-members w (setOf c) (λ x. p x ∙ sym (setOf-is c x))
 
 -- a set that lacks a member of another one, and has none that the other lacks, is smaller
 pub size-fewer : (cap s r v : ℕ) → v < cap → Within r s → T (has s v) → ¬ T (has r v) → size cap r < size cap s

@@ -7,6 +7,7 @@
 --   once g cs x    : and opens a new one if none does
 --   cliques n g    : the cliques on hand, by when they were opened, after all vertices were taken by rising number, and then once more
 --   clique n g     : the largest of them, the earliest opened on a tie; it has no member where the graph is empty
+--   setOf c        : c's members as a set
 --   IsClique n g c : c's members are live, none stands twice, and each two are adjacent
 --
 -- Assumes nothing.
@@ -14,7 +15,8 @@ use mathlib.Core.Logic.{_≢_}
 use mathlib.Core.Bool.{Bool, cond}
 use mathlib.Core.List.{List, [], _∷_, _++_, map}
 use mathlib.Core.Option.{Option·getD}
-use Prim.Native.Nat.{ℕ}
+use Prim.Native.Nat.{ℕ, _^_}
+use lib.Bits.{bitOr}
 use lib.Dec.{T, eqb}
 use lib.ListN.{length}
 use Rattle.sets.specs.Lists.{In, NoDup, every, some?, greatest, over}
@@ -41,6 +43,10 @@ cliques n g = over (again g) (over (once g) [] (vertices n g)) (vertices n g)
 
 unfoldable pub clique : ℕ → Graph → List ℕ
 clique n g = Option·getD (greatest length (cliques n g)) []
+
+abbrev pub setOf : List ℕ → ℕ
+setOf [] = 0
+setOf (x ∷ c) = bitOr (setOf c) (2 ^ x)
 
 pub record IsClique (n : ℕ) (g : Graph) (c : List ℕ) : Type 0 where
   pub lives : (x : ℕ) → In x c → Live n g x

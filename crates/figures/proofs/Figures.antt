@@ -1,5 +1,5 @@
--- Every row of document 01's table holds of what the walks promise: one computation, and one law that turns a passed test into the row's statement.
--- Assumes nothing.
+-- Every row of document 01's table holds of what the walks promise: one computation, and one law that turns a passed test into the row's statement. The
+-- cliques that are shown go the same way. Assumes nothing.
 use mathlib.Core.Path.{_≡_, refl, sym, ap, ap₂, _∙_, subst}
 use mathlib.Core.Logic.{_≢_}
 use mathlib.Core.Bool.{Bool, true, _&&_, cond}
@@ -20,14 +20,14 @@ use Rattle.clashes.specs.Divisions.{freeDivisions}
 use Rattle.graphs.specs.Graph.{Graph}
 use Rattle.cliques.specs.Clique.{clique}
 use Rattle.mycielski.specs.Rounds as rounds
-use Rattle.bounds.specs.Names.{mycielskian, mycielskian-is}
+use Rattle.bounds.specs.Names.{mycielskian, clique-set-is, mycielskian-is}
 use Rattle.zykov.specs.Tree.{levels, grown, below, zykov}
 use Rattle.zykov.specs.Walk.{State, walk}
-use Rattle.walk.specs.Promise.{Numbers, numbers, Promised, refused, walked, answerUpTo}
+use Rattle.walk.specs.Promise.{numbers, Promised, refused, walked, answerUpTo}
 use Rattle.walk.specs.declared.Answer.{Answer}
 use Rattle.walk.specs.declared.Answer.the-variants.{Accepted, Many, Stray, Itself, OneSided, Short, Budget, Deep}
 use Rattle.walk.proofs.PromiseLaws.{promised-answer}
-use Rattle.figures.specs.Table.{Row, table, walkOf, same, sameList, passes, Confirmed}
+use Rattle.figures.specs.Table.{Figures, figuresOf, Row, table, cliques, walkOf, same, sameList, passes, picks, Confirmed, Shows}
 
 -- ---- the computation
 
@@ -37,7 +37,7 @@ all-pass = tt
 
 -- ---- the law
 
-same-is : (v w : Numbers) → T (same v w) → v ≡ w
+same-is : (v w : Figures) → T (same v w) → v ≡ w
 same-is v w t = λ i. record {
   number = eqb→eq (v .number) (w .number) (and-l (eqb (v .number) (w .number)) _ t) i;
   k = eqb→eq (v .k) (w .k) (and-l (eqb (v .k) (w .k)) _ (and-r (eqb (v .number) (w .number)) _ t)) i;
@@ -72,7 +72,7 @@ module _ (w : ℕ → (ℕ → ℕ → Bool) → State) (rows before other : Lis
 -- where the number is 0 the answer is an accepted one
 colours-of : (w : ℕ → (ℕ → ℕ → Bool) → State) (rows before after : List ℕ) (budget : ℕ) (a : Answer) → numbers a .number ≡ zero
     → Promised w rows before budget a after → take (length rows) after ≡ w (length rows) (matrix rows) .best
-colours-of w rows before after budget (Accepted k m l) e p = p .best
+colours-of w rows before after budget (Accepted k m l c) e p = p .best
 colours-of w rows before after budget Many e p = absurd (omega arith)
 colours-of w rows before after budget (Stray i) e p = absurd (omega arith)
 colours-of w rows before after budget (Itself i) e p = absurd (omega arith)
@@ -89,7 +89,7 @@ module _ (r : Row) (t : T (passes r)) where
   zeros = listOf (λ i. zero) n
 
   abbrev numbers? : Bool
-  numbers? = same (numbers (answerUpTo 64 (walkOf rounds.mycielskian r) (r .rows) zeros (r .budget))) (r .want)
+  numbers? = same (figuresOf (numbers (answerUpTo 64 (walkOf rounds.mycielskian r) (r .rows) zeros (r .budget)))) (r .want)
 
   abbrev colours? : Bool
   colours? = cond (eqb (r .want .number) zero) (sameList (walkOf rounds.mycielskian r n (matrix (r .rows)) .best) (r .colours)) true
@@ -101,9 +101,9 @@ module _ (r : Row) (t : T (passes r)) where
   unfolding passes
   parts = t
 
-  numbers-hold : (before after : List ℕ) (a : Answer) → n ≤ length before → Promised (walkOf mycielskian r) (r .rows) before (r .budget) a after → numbers a ≡ r .want
+  numbers-hold : (before after : List ℕ) (a : Answer) → n ≤ length before → Promised (walkOf mycielskian r) (r .rows) before (r .budget) a after → figuresOf (numbers a) ≡ r .want
   numbers-hold before after a b p =
-      ap numbers
+      ap (λ (a : Answer). figuresOf (numbers a))
       (sym (promised-answer 64 (walkOf mycielskian r) (r .rows) before (r .budget) a after p)
       ∙ answer-any (walkOf mycielskian r) (r .rows) before zeros (r .budget) b (le-of-eq (sym (length-table (λ i. zero) n)))
       ∙ ap (λ w. answerUpTo 64 w (r .rows) zeros (r .budget)) (sym (named r)))
@@ -123,10 +123,20 @@ module _ (r : Row) (t : T (passes r)) where
   holds = record {
     numbers-are = numbers-hold;
     colours-are = λ before after a b p e.
-        colours-of (walkOf mycielskian r) (r .rows) before after (r .budget) a (ap (λ (v : Numbers). v .number) (numbers-hold before after a b p) ∙ e) p
+        colours-of (walkOf mycielskian r) (r .rows) before after (r .budget) a (ap (λ (v : Figures). v .number) (numbers-hold before after a b p) ∙ e) p
         ∙ ap (λ w. w n (matrix (r .rows)) .best) (sym (named r)) ∙ colours-hold (and-l colours? twice? (and-r numbers? (colours? && twice?) parts)) e;
     twice-is = twice-holds (and-r colours? twice? (and-r numbers? (colours? && twice?) parts));
   }
 
 pub figures : (r : Row) → In r table → Confirmed r
 figures r i = holds r (every-get passes table all-pass r i)
+
+-- ---- the cliques
+
+all-picked : T (every picks cliques)
+unfolding picks clique upto
+all-picked = tt
+
+pub cliques-shown : (p : List ℕ × ℕ) → In p cliques → Shows p
+unfolding picks
+cliques-shown p i walk before after budget k m l c q = q .shown ∙ clique-set-is _ _ ∙ eqb→eq _ (p .1) (every-get picks cliques all-picked p i)

@@ -22,11 +22,12 @@ use Rattle.sheet_texts.specs.declared.Written.the-variants.{Length}
 use Rattle.sheet_texts.proofs.OwnList.{own-list, rows-count}
 
 module _ (plain : Bool) (walk : ℕ → (ℕ → ℕ → Bool) → Described) (text lent : List ℕ) (n : ℕ) (rows : List ℕ) (x : ReadPromise plain text lent (Read n) rows) where
-  pub walk-accepted : (before : List ℕ) (budget k nodes leaves : ℕ) (after : List ℕ) → Promised walk (take n rows) before budget (Walked k nodes leaves) after
+  pub walk-accepted : (before : List ℕ) (budget k nodes leaves clique : ℕ) (after : List ℕ)
+      → Promised walk (take n rows) before budget (Walked k nodes leaves clique) after
       → (old : List ℕ) (l : ℕ) (out bytes : List ℕ) (a : Checked) (new : List ℕ) → WritePromise (take n after) old (Length l) out
       → CheckPromise plain text (take l out) bytes a new → n ≤ length bytes
       → (a ≡ Accepted k) × (new ≡ take n after ++ drop n bytes)
-  walk-accepted before budget k nodes leaves after p old l out bytes a new w y h =
+  walk-accepted before budget k nodes leaves clique after p old l out bytes a new w y h =
       let z : length (take n rows) ≡ n = rows-count plain text lent n rows x in
       let d = subst (λ (m : ℕ). Division m (take m after)) z (p .division) in
       let f = subst (λ (m : ℕ). T (clashFree m (matrix (take n rows)) (take m after))) z (p .free) in

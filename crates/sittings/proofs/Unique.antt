@@ -8,8 +8,8 @@ use denote.Ref.{RefT, now}
 use Rattle.clashes.specs.Matrix.{Judged}
 use Rattle.clashes.specs.declared.Verdict.{Verdict}
 use Rattle.clashes.proofs.MatrixLaws.{judged-unique}
-use Rattle.bounds.specs.Names.{cliqueBound, mycielskian}
-use Rattle.bounds.specs.Lent.{Answers}
+use Rattle.bounds.specs.Names.{cliqueSet, cliqueBound, mycielskian}
+use Rattle.bounds.specs.Lent.{noMembers, Answers}
 use Rattle.bounds.specs.declared.Bound.{Bound}
 use Rattle.bounds.proofs.LentLaws.{answers-unique}
 use Rattle.zykov.specs.Walk.{boundedWalk, plainWalk}
@@ -36,11 +36,11 @@ use Rattle.answers.proofs.Calls as answers
 pub validity-unique : (rows : List ℕ) (a b : Verdict) → Judged rows a → Judged rows b → a ≡ b
 validity-unique = judged-unique
 
-pub clique-unique : (rows : List ℕ) (a b : Bound) → Answers cliqueBound rows a → Answers cliqueBound rows b → a ≡ b
-clique-unique = answers-unique 64 cliqueBound
+pub clique-unique : (rows : List ℕ) (a b : Bound) → Answers cliqueBound cliqueSet rows a → Answers cliqueBound cliqueSet rows b → a ≡ b
+clique-unique = answers-unique 64 cliqueBound cliqueSet
 
-pub mycielskian-unique : (rows : List ℕ) (a b : Bound) → Answers mycielskian rows a → Answers mycielskian rows b → a ≡ b
-mycielskian-unique = answers-unique 64 mycielskian
+pub mycielskian-unique : (rows : List ℕ) (a b : Bound) → Answers mycielskian noMembers rows a → Answers mycielskian noMembers rows b → a ≡ b
+mycielskian-unique = answers-unique 64 mycielskian noMembers
 
 pub fewest-unique : (rows before : List ℕ) (budget : ℕ) (a b : Answer) (after other : List ℕ)
     → Promised (boundedWalk mycielskian) rows before budget a after → Promised (boundedWalk mycielskian) rows before budget b other

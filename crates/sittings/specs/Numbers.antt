@@ -2,8 +2,8 @@
 -- that an answer does not name is 0. Each is read off the one definition of its own crate.
 --
 --   verdictNumbers : of `validity`
---   boundNumbers   : of the two bounds
---   walkNumbers    : of the two walks
+--   boundNumbers   : of the two bounds; refusedBound : of one that is refused, with this row
+--   walkNumbers    : of the two walks; refusedWalk : of one that is refused, with this row and nodes
 --   readNumbers    : of reading a list
 --   listNumbers    : of writing a list
 --   sheetNumbers   : of writing a sheet
@@ -12,11 +12,13 @@
 --   printedNumbers : of writing what slotsheet prints
 --
 -- Assumes nothing.
-use Rattle.refusals.specs.Table.{accepted, told}
+use Prim.Native.Nat.{ℕ}
+use Rattle.refusals.specs.Table.{accepted, numberOf, told}
+use Rattle.refusals.specs.declared.Refusal.{Refusal}
 use Rattle.refusals.specs.declared.Refusal.the-variants.{Full as full}
 use Rattle.clashes.specs.Matrix.{numbers}
 use Rattle.clashes.specs.declared.Verdict.{Verdict}
-use Rattle.bounds.specs.Lent.{verdictOf, valueOf}
+use Rattle.bounds.specs.Lent.{verdictOf, valueOf, membersOf}
 use Rattle.bounds.specs.declared.Bound.{Bound}
 use Rattle.walk.specs.Promise as walk
 use Rattle.walk.specs.declared.Answer.{Answer}
@@ -42,7 +44,10 @@ abbrev pub verdictNumbers : Verdict → VerdictNumbers
 verdictNumbers v = record { refusal = numbers v .number; row = numbers v .row }
 
 abbrev pub boundNumbers : Bound → BoundNumbers
-boundNumbers b = record { refusal = numbers (verdictOf b) .number; row = numbers (verdictOf b) .row; bound = valueOf b }
+boundNumbers b = record { refusal = numbers (verdictOf b) .number; row = numbers (verdictOf b) .row; bound = valueOf b; members = membersOf b }
+
+abbrev pub refusedBound : Refusal → ℕ → BoundNumbers
+refusedBound why row = record { refusal = numberOf why; row = row; bound = 0; members = 0 }
 
 abbrev pub walkNumbers : Answer → WalkNumbers
 walkNumbers a = record {
@@ -51,7 +56,11 @@ walkNumbers a = record {
   k = walk.numbers a .k;
   nodes = walk.numbers a .nodes;
   leaves = walk.numbers a .leaves;
+  clique = walk.numbers a .clique;
 }
+
+abbrev pub refusedWalk : Refusal → ℕ → ℕ → WalkNumbers
+refusedWalk why row nodes = record { refusal = numberOf why; row = row; k = 0; nodes = nodes; leaves = 0; clique = 0 }
 
 abbrev pub readNumbers : Reading → ReadNumbers
 readNumbers a = record {

@@ -9,8 +9,8 @@ use sheets::Checked;
 use walk::Answer;
 ghost use mathlib.Core.Bool.{true, false};
 ghost use Rattle.clashes.specs.Matrix.{Judged};
-ghost use Rattle.bounds.specs.Names.{cliqueBound, mycielskian};
-ghost use Rattle.bounds.specs.Lent.{Answers};
+ghost use Rattle.bounds.specs.Names.{cliqueSet, cliqueBound, mycielskian};
+ghost use Rattle.bounds.specs.Lent.{noMembers, Answers};
 ghost use Rattle.zykov.specs.Walk.{boundedWalk, plainWalk};
 ghost use Rattle.walk.specs.Promise.{Promised};
 ghost use Rattle.lists.specs.Promise.{ReadPromise, WritePromise};
@@ -28,28 +28,28 @@ pub fn validity(rows: &[u64]) -> Verdict
     clashes::validity(rows)
 }
 
-// The clique bound of a list.
+// The clique bound of a list, and the clique's members.
 pub fn clique_bound(rows: &[u64]) -> Bound
-    ensures { λ r. ⌜ Answers cliqueBound (now (rows .entry)) r ⌝ }
+    ensures { λ r. ⌜ Answers cliqueBound cliqueSet (now (rows .entry)) r ⌝ }
 {
     bounds::clique_bound(rows)
 }
 
 // The Mycielskian bound of a list.
 pub fn mycielskian_bound(rows: &[u64]) -> Bound
-    ensures { λ r. ⌜ Answers mycielskian (now (rows .entry)) r ⌝ }
+    ensures { λ r. ⌜ Answers mycielskian noMembers (now (rows .entry)) r ⌝ }
 {
     bounds::mycielskian_bound(rows)
 }
 
-// The fewest sittings of a list, by the bounded walk: k and nodes, and each entry's sitting in the lent bytes.
+// The fewest sittings of a list, by the bounded walk: k, nodes and the clique, and each entry's sitting in the lent bytes.
 pub fn fewest(rows: &[u64], colours: &mut [u8], budget: u64) -> Answer
     ensures { λ r. ⌜ Promised (boundedWalk mycielskian) (now (rows .entry)) (now (colours .entry)) budget r (now (colours .exit)) ⌝ }
 {
     walk::fewest(rows, colours, budget)
 }
 
-// The same by the plain walk, which has no bounds: k, nodes and complete graphs.
+// The same by the plain walk, which has no bounds: k, nodes, complete graphs and the clique.
 pub fn plain(rows: &[u64], colours: &mut [u8], budget: u64) -> Answer
     ensures { λ r. ⌜ Promised plainWalk (now (rows .entry)) (now (colours .entry)) budget r (now (colours .exit)) ⌝ }
 {

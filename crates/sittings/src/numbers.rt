@@ -11,7 +11,7 @@ use refusals::number;
 use sheets::Checked;
 use walk::Answer;
 ghost use mathlib.Core.Path.{_≡_};
-ghost use Rattle.sittings.specs.Numbers.{verdictNumbers, boundNumbers, walkNumbers, readNumbers, listNumbers, sheetNumbers, checkNumbers, partNumbers, printedNumbers};
+ghost use Rattle.sittings.specs.Numbers.{verdictNumbers, refusedBound, boundNumbers, refusedWalk, walkNumbers, readNumbers, listNumbers, sheetNumbers, checkNumbers, partNumbers, printedNumbers};
 
 #[repr(C)]
 pub struct VerdictNumbers {
@@ -19,13 +19,16 @@ pub struct VerdictNumbers {
     pub row: usize,
 }
 
+// `members` is the clique's set: bit i where entry i is in it.
 #[repr(C)]
 pub struct BoundNumbers {
     pub refusal: usize,
     pub row: usize,
     pub bound: usize,
+    pub members: u64,
 }
 
+// `clique` is the set of the starting graph's clique, as in `BoundNumbers`.
 #[repr(C)]
 pub struct WalkNumbers {
     pub refusal: usize,
@@ -33,6 +36,7 @@ pub struct WalkNumbers {
     pub k: usize,
     pub nodes: u64,
     pub leaves: u64,
+    pub clique: u64,
 }
 
 // `column` is 0 unless the refusal is one of a line's shape: 10, 21, 22 or 23. So in `CheckNumbers`.
@@ -94,35 +98,46 @@ pub fn of_verdict(v: Verdict) -> VerdictNumbers
     }
 }
 
+// A bound that is refused: every number that it does not name is 0.
+fn refused_bound(why: Refusal, row: usize) -> BoundNumbers
+    ensures { λ r. ⌜ r ≡ refusedBound why row ⌝ }
+{
+    BoundNumbers {
+        refusal: number(why),
+        row,
+        bound: 0,
+        members: 0,
+    }
+}
+
 pub fn of_bound(b: Bound) -> BoundNumbers
     ensures { λ r. ⌜ r ≡ boundNumbers b ⌝ }
 {
     match b {
-        Bound::At(bound) => BoundNumbers {
+        Bound::At(bound, members) => BoundNumbers {
             refusal: 0,
             row: 0,
             bound,
+            members,
         },
-        Bound::Many => BoundNumbers {
-            refusal: number(Refusal::Many),
-            row: 0,
-            bound: 0,
-        },
-        Bound::Stray(row) => BoundNumbers {
-            refusal: number(Refusal::Stray),
-            row,
-            bound: 0,
-        },
-        Bound::Itself(row) => BoundNumbers {
-            refusal: number(Refusal::Itself),
-            row,
-            bound: 0,
-        },
-        Bound::OneSided(row) => BoundNumbers {
-            refusal: number(Refusal::OneSided),
-            row,
-            bound: 0,
-        },
+        Bound::Many => refused_bound(Refusal::Many, 0),
+        Bound::Stray(row) => refused_bound(Refusal::Stray, row),
+        Bound::Itself(row) => refused_bound(Refusal::Itself, row),
+        Bound::OneSided(row) => refused_bound(Refusal::OneSided, row),
+    }
+}
+
+// A walk that is refused: every number that it does not name is 0.
+fn refused_walk(why: Refusal, row: usize, nodes: u64) -> WalkNumbers
+    ensures { λ r. ⌜ r ≡ refusedWalk why row nodes ⌝ }
+{
+    WalkNumbers {
+        refusal: number(why),
+        row,
+        k: 0,
+        nodes,
+        leaves: 0,
+        clique: 0,
     }
 }
 
@@ -130,62 +145,21 @@ pub fn of_walk(a: Answer) -> WalkNumbers
     ensures { λ r. ⌜ r ≡ walkNumbers a ⌝ }
 {
     match a {
-        Answer::Accepted(k, nodes, leaves) => WalkNumbers {
+        Answer::Accepted(k, nodes, leaves, clique) => WalkNumbers {
             refusal: 0,
             row: 0,
             k,
             nodes,
             leaves,
+            clique,
         },
-        Answer::Many => WalkNumbers {
-            refusal: number(Refusal::Many),
-            row: 0,
-            k: 0,
-            nodes: 0,
-            leaves: 0,
-        },
-        Answer::Stray(row) => WalkNumbers {
-            refusal: number(Refusal::Stray),
-            row,
-            k: 0,
-            nodes: 0,
-            leaves: 0,
-        },
-        Answer::Itself(row) => WalkNumbers {
-            refusal: number(Refusal::Itself),
-            row,
-            k: 0,
-            nodes: 0,
-            leaves: 0,
-        },
-        Answer::OneSided(row) => WalkNumbers {
-            refusal: number(Refusal::OneSided),
-            row,
-            k: 0,
-            nodes: 0,
-            leaves: 0,
-        },
-        Answer::Short => WalkNumbers {
-            refusal: number(Refusal::Short),
-            row: 0,
-            k: 0,
-            nodes: 0,
-            leaves: 0,
-        },
-        Answer::Budget(nodes) => WalkNumbers {
-            refusal: number(Refusal::Budget),
-            row: 0,
-            k: 0,
-            nodes,
-            leaves: 0,
-        },
-        Answer::Deep => WalkNumbers {
-            refusal: number(Refusal::Deep),
-            row: 0,
-            k: 0,
-            nodes: 0,
-            leaves: 0,
-        },
+        Answer::Many => refused_walk(Refusal::Many, 0, 0),
+        Answer::Stray(row) => refused_walk(Refusal::Stray, row, 0),
+        Answer::Itself(row) => refused_walk(Refusal::Itself, row, 0),
+        Answer::OneSided(row) => refused_walk(Refusal::OneSided, row, 0),
+        Answer::Short => refused_walk(Refusal::Short, 0, 0),
+        Answer::Budget(nodes) => refused_walk(Refusal::Budget, 0, nodes),
+        Answer::Deep => refused_walk(Refusal::Deep, 0, 0),
     }
 }
 

@@ -11,7 +11,7 @@ fn refused(why: Refusal, row: usize) {
 
 fn tell(b: Bound) {
     match b {
-        Bound::At(value) => {
+        Bound::At(value, _members) => {
             trials::put(b" ");
             trials::put_number(value);
         }

@@ -476,7 +476,7 @@ fn refused(why: Refusal, row: usize) {
 
 fn tell(a: Answer) {
     match a {
-        Answer::Accepted(k, nodes, leaves) => {
+        Answer::Accepted(k, nodes, leaves, _clique) => {
             say(b": k ", k as u64);
             say(b" nodes ", nodes);
             say(b" leaves ", leaves);

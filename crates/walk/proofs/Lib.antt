@@ -1,9 +1,5 @@
--- The laws of the walks' turns.
-pub mod Turns
-pub mod Splits
-pub mod Compare
+-- What the walks promise comes to; and that the code's answers meet it.
 pub mod PromiseLaws
 pub mod Meets
 pub mod Answers
-pub mod Starting
 pub mod Demands

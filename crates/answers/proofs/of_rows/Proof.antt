@@ -37,7 +37,7 @@ refused-requires c κs = search needs
 accepted : (c : tie.After-colours3)
     → let f = c .before .before .before .before .before in
     let g = c .before .before .a .given .0 in
-    Promised (boundedWalk mycielskian) (f .before .before .before .args .rows .now) (replicate 64 0) budget (Accepted (g .0) (g .1 .0) (g .1 .1 .0)) (f .fewest .last .1 .0)
+    Promised (boundedWalk mycielskian) (f .before .before .before .args .rows .now) (replicate 64 0) budget (Accepted (g .0) (g .1 .0) (g .1 .1 .0) (g .1 .1 .1 .0)) (f .fewest .last .1 .0)
 accepted c =
     let f = c .before .before .before .before .before in
     subst (λ (x : Answer). Promised (boundedWalk mycielskian) (f .before .before .before .args .rows .now) (replicate 64 0) budget x (f .fewest .last .1 .0)) (c .before .before .a .given .1) (f .fewest .ensures)
@@ -55,7 +55,7 @@ returns c =
     let d = c .before in
     let a = d .before .before .before .before .before .before .before .before in
     let e = c .compose .ensures in
-    subst (λ (x : List ℕ). IsText x (c .compose .result)) (sym (rows-accepted (a .args .rows .now) (replicate 64 0) _ _ _ _ (accepted d)))
+    subst (λ (x : List ℕ). IsText x (c .compose .result)) (sym (rows-accepted (a .args .rows .now) (replicate 64 0) _ _ _ _ _ (accepted d)))
     (record { fits = e .0; long = e .1; is = e .2 })
 
 returns-2 : tie.Need-returns-2

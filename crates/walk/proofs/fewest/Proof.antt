@@ -5,7 +5,7 @@ use lib.ListN.{length}
 use Rattle.zykov.specs.Walk.{bounded, boundedWalk}
 use Rattle.bounds.specs.Names.{mycielskian}
 use Rattle.walk.specs.Promise.{Open, Gated}
-use Rattle.walk.proofs.Starting.{root-parts, ready-start}
+use Rattle.steps.proofs.Starting.{root-parts, ready-start}
 use Rattle.walk.proofs.Answers.{bounded-answers}
 use Rattle.walk.proofs.Meets.{promised-told, promised-refused}
 use Rattle.walk.proofs.fewest.Statement.{statement}
@@ -37,7 +37,7 @@ enter-requires : tie.Need-enter-requires
 enter-requires c κs = ready-start _ _ _ _ (root-parts _ _ (c .before .before .before .before .before .root .ensures)) (c .start .ensures)
 
 told-requires : tie.Need-told-requires
-told-requires c κs = let o = opened (c .before .before .before .before .before .before .before .before) in (o .sound .apart .inside .few, o .bytes)
+told-requires c κs = opened (c .before .before .before .before .before .before .before .before)
 
 returns : tie.Need-returns
 returns c =

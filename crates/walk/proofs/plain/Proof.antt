@@ -4,7 +4,7 @@ use borrow.Author.Needs.{needs}
 use lib.ListN.{length}
 use Rattle.zykov.specs.Walk.{plain, plainWalk}
 use Rattle.walk.specs.Promise.{Open, Gated}
-use Rattle.walk.proofs.Starting.{root-parts, ready-start}
+use Rattle.steps.proofs.Starting.{root-parts, ready-start}
 use Rattle.walk.proofs.Answers.{plain-answers}
 use Rattle.walk.proofs.Meets.{promised-told, promised-refused}
 use Rattle.walk.proofs.plain.Statement.{statement}
@@ -36,7 +36,7 @@ explore-requires : tie.Need-explore-requires
 explore-requires c κs = ready-start _ _ _ _ (root-parts _ _ (c .before .before .before .before .before .root .ensures)) (c .start .ensures)
 
 told-requires : tie.Need-told-requires
-told-requires c κs = let o = opened (c .before .before .before .before .before .before .before .before) in (o .sound .apart .inside .few, o .bytes)
+told-requires c κs = opened (c .before .before .before .before .before .before .before .before)
 
 returns : tie.Need-returns
 returns c =

@@ -1,9 +1,9 @@
--- `walk::compared` meets its contract. Assumes nothing.
+-- `steps::compared` meets its contract. Assumes nothing.
 use borrow.Author.Needs.{needs}
 use Rattle.graphs.specs.Held.{node}
-use Rattle.walk.proofs.Compare.{met-ready, compare-kept, compare-better}
-use Rattle.walk.proofs.compared.Statement.{statement}
-use Rattle.walk.proofs.compared.Tie as tie
+use Rattle.steps.proofs.Compare.{met-ready, compare-kept, compare-better}
+use Rattle.steps.proofs.compared.Statement.{statement}
+use Rattle.steps.proofs.compared.Tie as tie
 
 add-t : tie.Need-add-t
 add-t c = search needs

@@ -1,4 +1,4 @@
--- `walk::explore` meets its contract: a cycle of one function, with a loop on the separations. Assumes nothing.
+-- `steps::explore` meets its contract: a cycle of one function, with a loop on the separations. Assumes nothing.
 use mathlib.Core.Path.{_≡_, refl, sym, ap, _∙_}
 use Prim.Native.Nat.{ℕ, _<_}
 use native.Mathlib.Omega.{arith}
@@ -10,24 +10,24 @@ use Rattle.graphs.specs.declared.Node.{Node}
 use Rattle.zykov.specs.Tree.{below}
 use Rattle.zykov.specs.Walk.{plain}
 use Rattle.zykov.specs.Budget.{within}
-use Rattle.walk.specs.Going.{stateOf, Ready, ReadyAt, Comes}
-use Rattle.walk.specs.declared.State.{State}
-use Rattle.walk.proofs.Turns.{Counted, counted-on, comes-out, comes-leaf, comes-fork}
-use Rattle.walk.proofs.Splits.{living, open-pairs, at-pair, pair-bounds, merged-ready, merged-falls, onward-out, separated-ready, onward-on, separated-falls, separated-lives}
+use Rattle.steps.specs.Going.{stateOf, Ready, ReadyAt, Comes}
+use Rattle.steps.specs.declared.State.{State}
+use Rattle.steps.proofs.Turns.{Counted, counted-on, comes-out, comes-leaf, comes-fork}
+use Rattle.steps.proofs.Splits.{living, open-pairs, at-pair, pair-bounds, merged-ready, merged-falls, onward-out, separated-ready, onward-on, separated-falls, separated-lives}
 use borrow.Fn.Kinds.{In}
 use borrow.Fn.PlainCycle.{Measures, is, falls, and}
-use Rattle.walk.proofs.explore.Reads as explore
-use Rattle.walk.proofs.explore.Kinds as explore-kinds
-use Rattle.walk.proofs.+explore.Lts-explore as explore-lts
+use Rattle.steps.proofs.explore.Reads as explore
+use Rattle.steps.proofs.explore.Kinds as explore-kinds
+use Rattle.steps.proofs.+explore.Lts-explore as explore-lts
 use Rattle.graphs.proofs.choose_among.Reads as choose-among-reads
 use Rattle.graphs.proofs.merge_rows.Reads as merge-rows-reads
 use Rattle.graphs.proofs.rename.Reads as rename-reads
 use Rattle.graphs.proofs.separate_rows.Reads as separate-rows-reads
 use Rattle.sets.proofs.without.Reads as without-reads
-use Rattle.walk.proofs.compared.Reads as compared-reads
-use Rattle.walk.proofs.counted.Reads as counted-reads
-use Rattle.walk.proofs.+explore.{statement}
-use Rattle.walk.proofs.+explore.Tie.{close}
+use Rattle.steps.proofs.compared.Reads as compared-reads
+use Rattle.steps.proofs.counted.Reads as counted-reads
+use Rattle.steps.proofs.+explore.{statement}
+use Rattle.steps.proofs.+explore.Tie.{close}
 
 -- from s the walk below h comes to r
 abbrev Entered : Node → State → State → Type 0

@@ -22,7 +22,7 @@ use Rattle.graphs.specs.Graph.{Graph, pair}
 use Rattle.graphs.specs.Held.{Held, view}
 use Rattle.graphs.specs.declared.Node.{Node}
 use Rattle.zykov.specs.Walk.{State as Described, start}
-use Rattle.walk.specs.declared.State.{State}
+use Rattle.steps.specs.declared.State.{State}
 
 abbrev pub stateOf : ℕ → State → Described
 stateOf n s = record { best = take n (s .best); nodes = s .nodes; leaves = s .leaves }

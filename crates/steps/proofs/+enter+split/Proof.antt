@@ -1,4 +1,4 @@
--- `walk::enter` and `walk::split` meet their contracts: a cycle of two functions, whose measures are twice the live vertices, and one more where a node
+-- `steps::enter` and `steps::split` meet their contracts: a cycle of two functions, whose measures are twice the live vertices, and one more where a node
 -- is entered. `split` loops on the separations, each of which leaves fewer pairs open. Assumes nothing.
 use mathlib.Core.Path.{_≡_, refl, sym, ap, _∙_}
 use mathlib.Core.Option.{some}
@@ -13,28 +13,28 @@ use Rattle.zykov.specs.Walk.{Rule, bounded}
 use Rattle.zykov.specs.Tree.{below}
 use Rattle.zykov.specs.Budget.{within, onward}
 use Rattle.bounds.specs.Names.{mycielskian}
-use Rattle.walk.specs.Going.{stateOf, Ready, ReadyAt, Comes}
-use Rattle.walk.specs.declared.State.{State}
-use Rattle.walk.proofs.Turns.{Counted, counted-on, comes-out, comes-cut, comes-leaf, comes-fork}
-use Rattle.walk.proofs.Splits.{living, open-pairs, at-pair, pair-bounds, merged-ready, merged-falls, onward-out, separated-ready, onward-on, separated-falls, separated-lives}
+use Rattle.steps.specs.Going.{stateOf, Ready, ReadyAt, Comes}
+use Rattle.steps.specs.declared.State.{State}
+use Rattle.steps.proofs.Turns.{Counted, counted-on, comes-out, comes-cut, comes-leaf, comes-fork}
+use Rattle.steps.proofs.Splits.{living, open-pairs, at-pair, pair-bounds, merged-ready, merged-falls, onward-out, separated-ready, onward-on, separated-falls, separated-lives}
 use borrow.Fn.Kinds.{In}
 use borrow.Fn.PlainCycle.{Measures, is, falls, and}
-use Rattle.walk.proofs.enter.Reads as enter
-use Rattle.walk.proofs.enter.Kinds as enter-kinds
-use Rattle.walk.proofs.+enter+split.Lts-enter as enter-lts
-use Rattle.walk.proofs.split.Reads as split
-use Rattle.walk.proofs.split.Kinds as split-kinds
-use Rattle.walk.proofs.+enter+split.Lts-split as split-lts
+use Rattle.steps.proofs.enter.Reads as enter
+use Rattle.steps.proofs.enter.Kinds as enter-kinds
+use Rattle.steps.proofs.+enter+split.Lts-enter as enter-lts
+use Rattle.steps.proofs.split.Reads as split
+use Rattle.steps.proofs.split.Kinds as split-kinds
+use Rattle.steps.proofs.+enter+split.Lts-split as split-lts
 use Rattle.bounds.proofs.reaches.Reads as reaches-reads
 use Rattle.graphs.proofs.choose_among.Reads as choose-among-reads
 use Rattle.graphs.proofs.merge_rows.Reads as merge-rows-reads
 use Rattle.graphs.proofs.rename.Reads as rename-reads
 use Rattle.graphs.proofs.separate_rows.Reads as separate-rows-reads
 use Rattle.sets.proofs.without.Reads as without-reads
-use Rattle.walk.proofs.counted.Reads as counted-reads
-use Rattle.walk.proofs.improved.Reads as improved-reads
-use Rattle.walk.proofs.+enter+split.{statement}
-use Rattle.walk.proofs.+enter+split.Tie.{close}
+use Rattle.steps.proofs.counted.Reads as counted-reads
+use Rattle.steps.proofs.improved.Reads as improved-reads
+use Rattle.steps.proofs.+enter+split.{statement}
+use Rattle.steps.proofs.+enter+split.Tie.{close}
 
 abbrev rule : ℕ → Rule
 rule n = bounded n mycielskian

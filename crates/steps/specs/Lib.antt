@@ -1,0 +1,2 @@
+-- A walk of the code on its way.
+pub mod Going
