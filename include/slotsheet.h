@@ -33,7 +33,7 @@ extern "C" {
 #endif
 
 /* tools/bindings writes from here on, from bindings/interface.txt */
-#define SLOTSHEET_VERSION "3.0.0"
+#define SLOTSHEET_VERSION "4.0.0"
 
 #define SLOTSHEET_ENTRIES 64          /* the most entries of a list */
 #define SLOTSHEET_BYTES 65536         /* the most bytes of a text that is read */
@@ -93,6 +93,7 @@ struct slotsheet_bound {
     size_t refusal;
     size_t row;
     size_t bound;
+    uint64_t members; /* of the clique bound: bit i says that entry i is in the clique; 0 of the Mycielskian bound */
 };
 
 struct slotsheet_walk {
@@ -101,6 +102,7 @@ struct slotsheet_walk {
     size_t k;         /* the number of groups */
     uint64_t nodes;   /* nodes entered; the budget where that refused */
     uint64_t leaves;  /* complete graphs of the plain walk */
+    uint64_t clique;  /* the list's clique, as in slotsheet_bound */
 };
 
 /* The column of 10, 21, 22 and 23, in bytes from 1, is that of the first byte at which the line can no longer begin any permitted line; one past
@@ -148,12 +150,13 @@ size_t slotsheet_sentence(size_t refusal, uint64_t place, size_t column, const u
 /* Whether rows are a list: 1 to 4, each over all rows before the next. */
 struct slotsheet_verdict slotsheet_validity(const uint64_t *rows, size_t rows_length);
 
-/* Lower bounds on the number of groups: 1 to 4. */
+/* Lower bounds on the number of groups: 1 to 4. The clique bound is the number of its members: entries that all clash with one another, so that no
+   two of them can be in one group. */
 struct slotsheet_bound slotsheet_clique_bound(const uint64_t *rows, size_t rows_length);
 struct slotsheet_bound slotsheet_mycielskian_bound(const uint64_t *rows, size_t rows_length);
 
 /* The fewest groups: 1 to 4, 5, 7, 6. Accepted, writes to colours[i] the number of entry i's group, for each of the n entries; colour bytes
-   from n on stay. */
+   from n on stay. `clique` has the members of the list's clique bound, which may be fewer than k: they say why it can't be fewer than their number. */
 struct slotsheet_walk slotsheet_fewest(const uint64_t *rows, size_t rows_length, uint8_t *colours, size_t colours_length, uint64_t budget);
 
 /* The same without bounds: also returns the number of complete graphs. For small lists. */

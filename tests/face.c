@@ -89,9 +89,9 @@ static void nulls(void) {
     uint8_t *odd = (uint8_t *)1;
     CHECK(slotsheet_validity(NULL, 0).refusal == SLOTSHEET_ACCEPTED);
     CHECK(slotsheet_validity((const uint64_t *)(const void *)odd, 0).refusal == SLOTSHEET_ACCEPTED);
-    CHECK(slotsheet_clique_bound(NULL, 0).bound == 0);
+    CHECK(slotsheet_clique_bound(NULL, 0).bound == 0 && slotsheet_clique_bound(NULL, 0).members == 0);
     CHECK(slotsheet_mycielskian_bound(NULL, 0).bound == 0);
-    CHECK(slotsheet_fewest(NULL, 0, NULL, 0, 1).nodes == 1);
+    CHECK(slotsheet_fewest(NULL, 0, NULL, 0, 1).nodes == 1 && slotsheet_fewest(NULL, 0, NULL, 0, 1).clique == 0);
     CHECK(slotsheet_plain(NULL, 0, odd, 0, 1).leaves == 1);
     CHECK(slotsheet_read_list(NULL, 0, NULL, 0).refusal == SLOTSHEET_HEADLESS);
     CHECK(slotsheet_read_list_repeats(NULL, 0, NULL, 0).refusal == SLOTSHEET_HEADLESS);
@@ -107,6 +107,20 @@ static void nulls(void) {
     CHECK(slotsheet_answer_repeats(NULL, 0, out, sizeof out).length == length("refused 11 line 1\n"));
     CHECK(slotsheet_answer(NULL, 0, out, sizeof out).length == length("refused 11 line 1\n"));
     CHECK(slotsheet_sentence(SLOTSHEET_TWICE, 7, 0, NULL, 0, NULL, 0) == length("line 7: the entry on this line stands in an earlier group"));
+}
+
+/* The clique of entries 1, 2 and 4 of four, beside bound and k; none beside a refusal or the Mycielskian bound. */
+static void cliques(void) {
+    const uint64_t four[4] = {10, 9, 8, 7};
+    struct slotsheet_bound bound = slotsheet_clique_bound(four, 4);
+    CHECK(bound.refusal == SLOTSHEET_ACCEPTED && bound.bound == 3 && bound.members == 11);
+    CHECK(slotsheet_mycielskian_bound(four, 4).bound == 3 && slotsheet_mycielskian_bound(four, 4).members == 0);
+    struct slotsheet_walk walk = slotsheet_fewest(four, 4, colours, 4, 9);
+    CHECK(walk.refusal == SLOTSHEET_ACCEPTED && walk.k == 3 && walk.clique == 11);
+    CHECK(slotsheet_plain(four, 4, colours, 4, 99).clique == 11);
+    CHECK(slotsheet_fewest(four, 4, colours, 4, 0).clique == 0);
+    CHECK(slotsheet_fewest(four, 4, colours, 3, 9).clique == 0);
+    CHECK(slotsheet_clique_bound(four, 3).refusal == SLOTSHEET_STRAY && slotsheet_clique_bound(four, 3).members == 0);
 }
 
 /* A sentence in every buffer that is too small for it, and in one that is large enough: nothing past the buffer, and a 0 at its end. */
@@ -131,10 +145,12 @@ static void *deepest(void *unused) {
     for (int i = 0; i < 64; i++) ring[i] = (uint64_t)1 << (i + 1) % 64 | (uint64_t)1 << (i + 63) % 64;
     CHECK(slotsheet_validity(ring, 64).refusal == SLOTSHEET_ACCEPTED);
     CHECK(slotsheet_clique_bound(ring, 64).bound == 2);
+    CHECK(slotsheet_clique_bound(ring, 64).members == 3);
     CHECK(slotsheet_mycielskian_bound(ring, 64).bound == 2);
     CHECK(slotsheet_plain(none, 64, own, 64, 100000).refusal == SLOTSHEET_BUDGET);
     CHECK(slotsheet_fewest(none, 64, own, 64, SLOTSHEET_NODES).k == 1);
     CHECK(slotsheet_fewest(ring, 64, own, 64, SLOTSHEET_NODES).k == 2);
+    CHECK(slotsheet_fewest(ring, 64, own, 64, SLOTSHEET_NODES).clique == 3);
     struct slotsheet_writing list = slotsheet_write_list(ring, 64, text, sizeof text);
     struct slotsheet_writing written = slotsheet_write_sheet(own, 64, sheet, sizeof sheet);
     CHECK(slotsheet_read_list(text, list.length, none, 64).entries == 64);
@@ -249,6 +265,7 @@ int main(int count, char **words) {
     }
     numbers();
     nulls();
+    cliques();
     buffers();
     small_stack();
     CHECK(strcmp(slotsheet_version(), SLOTSHEET_VERSION) == 0);

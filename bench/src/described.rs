@@ -209,8 +209,8 @@ impl State {
         }
     }
 
-    /// "Groups are numbered from 0 by smallest member; byte i is the number of i's group."
-    fn answer(self, walked: Result<(), Spent>, colours: &mut [u8]) -> Result<Walked, Refused> {
+    /// "Groups are numbered from 0 by smallest member; byte i is the number of i's group." `clique` is the starting graph's.
+    fn answer(self, walked: Result<(), Spent>, clique: u64, colours: &mut [u8]) -> Result<Walked, Refused> {
         if walked.is_err() {
             return Err(Refused { place: self.nodes, ..Refusal::Budget.bare() });
         }
@@ -219,7 +219,7 @@ impl State {
                 colours[i] = number as u8;
             }
         }
-        Ok(Walked { k: u64::from(self.best_size), nodes: self.nodes, complete: self.complete })
+        Ok(Walked { k: u64::from(self.best_size), nodes: self.nodes, complete: self.complete, clique })
     }
 }
 
@@ -228,7 +228,7 @@ pub fn fewest(rows: &[u64], colours: &mut [u8], budget: u64) -> Result<Walked, R
     admit(rows, colours)?;
     let mut state = State::start(rows, budget);
     let walked = state.enter(Graph::of(rows));
-    state.answer(walked, colours)
+    state.answer(walked, Graph::of(rows).clique(), colours)
 }
 
 /// The plain walk.
@@ -236,12 +236,12 @@ pub fn plain(rows: &[u64], colours: &mut [u8], budget: u64) -> Result<Walked, Re
     admit(rows, colours)?;
     let mut state = State::start(rows, budget);
     let walked = state.enter_plain(Graph::of(rows));
-    state.answer(walked, colours)
+    state.answer(walked, Graph::of(rows).clique(), colours)
 }
 
-/// Both bounds alone: the clique's size and the Mycielskian bound.
-pub fn bounds(rows: &[u64]) -> Result<(u32, u32), Refused> {
+/// Both bounds alone: the clique, whose size is one, and the Mycielskian bound.
+pub fn bounds(rows: &[u64]) -> Result<(u64, u32), Refused> {
     judge(rows)?;
     let graph = Graph::of(rows);
-    Ok((size(graph.clique()), graph.bound()))
+    Ok((graph.clique(), graph.bound()))
 }

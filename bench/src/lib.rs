@@ -21,6 +21,8 @@ pub struct Walked {
     pub nodes: u64,
     /// The plain walk's number of complete graphs; 0 for the bounded walk.
     pub complete: u64,
+    /// The starting graph's clique, as a set.
+    pub clique: u64,
 }
 
 /// A walk: lent rows, lent colours, budget.

@@ -30,9 +30,9 @@ const WALKS: &[(&str, Walk)] = &[
     ("proved", proved::fewest),
 ];
 
-type Bounds = fn(&[u64]) -> Result<(u32, u32), Refused>;
+type Bounds = fn(&[u64]) -> Result<(u64, u32), Refused>;
 
-/// Both bounds of a list, by whom.
+/// The clique of a list and its Mycielskian bound, by whom.
 const BOUNDS: &[(&str, Bounds)] = &[
     ("plain", described::bounds),
     ("tuned", tuned::bounds),
@@ -193,7 +193,7 @@ fn bounds(tests: &Path, word: &str) -> bool {
         }
         let mut calls: Vec<_> = BOUNDS.iter().map(|(_, bounds)| || discard(bounds(&rows))).collect();
         let mut calls: Vec<&mut dyn FnMut()> = calls.iter_mut().map(|call| call as &mut dyn FnMut()).collect();
-        let mut cells = vec![name.to_string(), clique.to_string(), mycielskian.to_string()];
+        let mut cells = vec![name.to_string(), clique.count_ones().to_string(), mycielskian.to_string()];
         cells.extend(seconds(&mut calls, 0.2).iter().map(|taken| format!("{:.0}", taken * 1e9)));
         row(&cells);
     }

@@ -11,13 +11,13 @@ fn refused(said: slotsheet::Refused) -> Refused {
 
 pub fn fewest(rows: &[u64], colours: &mut [u8], budget: u64) -> Result<Walked, Refused> {
     let walked = slotsheet::fewest(rows, colours, budget).map_err(refused)?;
-    Ok(Walked { k: walked.k as u64, nodes: walked.nodes, complete: walked.leaves })
+    Ok(Walked { k: walked.k as u64, nodes: walked.nodes, complete: walked.leaves, clique: walked.clique })
 }
 
-pub fn bounds(rows: &[u64]) -> Result<(u32, u32), Refused> {
+pub fn bounds(rows: &[u64]) -> Result<(u64, u32), Refused> {
     let clique = slotsheet::clique_bound(rows).map_err(refused)?;
     let mycielskian = slotsheet::mycielskian_bound(rows).map_err(refused)?;
-    Ok((clique as u32, mycielskian as u32))
+    Ok((clique.members, mycielskian as u32))
 }
 
 pub fn read(text: &[u8], rows: &mut [u64]) -> Result<usize, Refused> {

@@ -348,15 +348,17 @@ pub fn fewest(rows: &[u64], colours: &mut [u8], budget: u64) -> Result<Walked, R
         return Err(Refused { place: state.nodes, ..Refusal::Budget.bare() });
     }
     state.colour(colours, n);
-    Ok(Walked { k: u64::from(state.best), nodes: state.nodes, complete: 0 })
+    root[..n].copy_from_slice(rows);
+    let clique = clique(&root, below(n), u32::MAX).members;
+    Ok(Walked { k: u64::from(state.best), nodes: state.nodes, complete: 0, clique })
 }
 
-/// Both bounds alone: the clique's size and the Mycielskian bound.
-pub fn bounds(rows: &[u64]) -> Result<(u32, u32), Refused> {
+/// Both bounds alone: the clique, whose size is one, and the Mycielskian bound.
+pub fn bounds(rows: &[u64]) -> Result<(u64, u32), Refused> {
     judge(rows)?;
     let mut root = [0; 64];
     root[..rows.len()].copy_from_slice(rows);
     let live = below(rows.len());
     let clique = clique(&root, live, u32::MAX);
-    Ok((clique.size, rounds(&root, live, clique, u32::MAX)))
+    Ok((clique.members, rounds(&root, live, clique, u32::MAX)))
 }

@@ -9,6 +9,8 @@ numbered from 0 by smallest member.
     >>> answer = slotsheet.fewest(rows)
     >>> answer.k, answer.colours
     (2, [0, 1, 0])
+    >>> answer.clique  # entries that all clash with one another: why it can't be fewer
+    [0, 1]
     >>> print(slotsheet.write_sheet(answer.colours), end="")
     groups 2
     size 2
@@ -46,13 +48,13 @@ from ctypes import POINTER, c_char_p, c_size_t, c_uint8, c_uint64
 from pathlib import Path
 
 __all__ = [
-    "VERSION", "ENTRIES", "BYTES", "SHEET_BYTES", "LIST_BYTES", "NODES", "STACK_BYTES", "Refused", "Walked", "Checked", "version", "rows_of", "validity",
+    "VERSION", "ENTRIES", "BYTES", "SHEET_BYTES", "LIST_BYTES", "NODES", "STACK_BYTES", "Refused", "Walked", "Clique", "Checked", "version", "rows_of", "validity",
     "clique_bound", "mycielskian_bound", "fewest", "plain", "read_list", "read_list_repeats", "write_list", "write_sheet", "check_sheet",
     "check_sheet_repeats", "fault_line", "fault_line_repeats", "answer", "answer_repeats",
 ]
 
 # tools/bindings writes from here on, from bindings/interface.txt
-VERSION = "3.0.0"
+VERSION = "4.0.0"
 
 ENTRIES = 64  # the most entries of a list
 BYTES = 65_536  # the most bytes of a text that is read
@@ -138,8 +140,11 @@ class Refused(ValueError):
         return Refused, self._made_of
 
 
-Walked = namedtuple("Walked", "k colours nodes leaves")
-Walked.__doc__ = "An accepted walk: the fewest groups k, each entry's group, the nodes entered, and the plain walk's number of complete graphs."
+Walked = namedtuple("Walked", "k colours nodes leaves clique")
+Walked.__doc__ = """An accepted walk: the fewest groups k, each entry's group, the nodes entered, the plain walk's number of complete graphs, and the members of
+the list's clique, which say why it can't be fewer than their number; that may be below k."""
+Clique = namedtuple("Clique", "size members")
+Clique.__doc__ = """Entries that all clash with one another, so that no two of them can be in one group: how many, and which, counted from 0, rising."""
 Checked = namedtuple("Checked", "k colours")
 Checked.__doc__ = "An accepted sheet: its number of groups k, and each entry's group."
 
@@ -149,11 +154,11 @@ class _Verdict(ctypes.Structure):
 
 
 class _Bound(ctypes.Structure):
-    _fields_ = [("refusal", c_size_t), ("row", c_size_t), ("bound", c_size_t)]
+    _fields_ = [("refusal", c_size_t), ("row", c_size_t), ("bound", c_size_t), ("members", c_uint64)]
 
 
 class _Walk(ctypes.Structure):
-    _fields_ = [("refusal", c_size_t), ("row", c_size_t), ("k", c_size_t), ("nodes", c_uint64), ("leaves", c_uint64)]
+    _fields_ = [("refusal", c_size_t), ("row", c_size_t), ("k", c_size_t), ("nodes", c_uint64), ("leaves", c_uint64), ("clique", c_uint64)]
 
 
 class _Reading(ctypes.Structure):
@@ -266,10 +271,19 @@ def validity(rows):
     _answered(said.refusal, said.row, None)
 
 
+def _members(of):
+    """The members of a set that is held as a number."""
+    return [entry for entry in range(ENTRIES) if of >> entry & 1]
+
+
 def clique_bound(rows):
-    """The clique bound: no division has fewer groups. Refused as 1 to 4."""
+    """The clique bound, as a Clique: no division has fewer groups than its size. Refused as 1 to 4.
+
+    >>> clique_bound(rows_of(4, [(0, 1), (1, 3), (0, 3), (2, 3)]))
+    Clique(size=3, members=[0, 1, 3])
+    """
     said = _library.slotsheet_clique_bound(*_lent_rows(rows))
-    return _answered(said.refusal, said.row, said.bound)
+    return _answered(said.refusal, said.row, Clique(said.bound, _members(said.members)))
 
 
 def mycielskian_bound(rows):
@@ -285,14 +299,15 @@ def _walk(call, rows, budget):
     colours = (c_uint8 * n)()
     said = call(lent, n, colours, n, budget)
     nodes = said.refusal and _TABLE[said.refusal][1] == "nodes"
-    return _answered(said.refusal, said.nodes if nodes else said.row, Walked(said.k, list(colours), said.nodes, said.leaves))
+    walked = Walked(said.k, list(colours), said.nodes, said.leaves, _members(said.clique))
+    return _answered(said.refusal, said.nodes if nodes else said.row, walked)
 
 
 def fewest(rows, budget=NODES):
     """The fewest groups of a list, as a Walked. Refused as 1 to 4, and as 6 where the search needs more nodes than the budget.
 
     >>> fewest(rows_of(5, [(0, 1), (1, 2), (2, 3), (3, 4), (4, 0)]))
-    Walked(k=3, colours=[0, 1, 0, 1, 2], nodes=5, leaves=0)
+    Walked(k=3, colours=[0, 1, 0, 1, 2], nodes=5, leaves=0, clique=[0, 1])
     """
     return _walk(_library.slotsheet_fewest, rows, budget)
 

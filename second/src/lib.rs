@@ -2,10 +2,12 @@
 //! the two agree on thousands of inputs, a misreading of the paper would have to have happened twice.
 //!
 //! - `colouring`: the fewest groups, by saturation branch and bound (no merging, no Mycielskian bound, no node count);
+//! - `clique`: the clique that says why it can't be fewer, by document 01's rule;
 //! - `matrix`: what makes lent rows a list (1 to 4), and P by listing divisions;
 //! - `list`: reading and writing a clash text; `shape`: what its lines may be, and the column at which one goes bad;
 //! - `sheet`: writing a sheet, checking one against a list, and the preview's part.
 
+pub mod clique;
 pub mod colouring;
 pub mod lines;
 pub mod list;

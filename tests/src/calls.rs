@@ -28,23 +28,23 @@ pub fn validity(rows: &[u64]) -> [usize; 2] {
     [said.refusal, said.row]
 }
 
-pub fn bounds(rows: &[u64]) -> [[usize; 3]; 2] {
+pub fn bounds(rows: &[u64]) -> [[u64; 4]; 2] {
     // SAFETY: as in `validity`.
     let said =
         unsafe { [raw::slotsheet_clique_bound(rows.as_ptr(), rows.len()), raw::slotsheet_mycielskian_bound(rows.as_ptr(), rows.len())] };
-    said.map(|said| [said.refusal, said.row, said.bound])
+    said.map(|said| [said.refusal as u64, said.row as u64, said.bound as u64, said.members])
 }
 
-fn walk(said: raw::Walk) -> [u64; 5] {
-    [said.refusal as u64, said.row as u64, said.k as u64, said.nodes, said.leaves]
+fn walk(said: raw::Walk) -> [u64; 6] {
+    [said.refusal as u64, said.row as u64, said.k as u64, said.nodes, said.leaves, said.clique]
 }
 
-pub fn fewest(rows: &[u64], colours: &mut [u8], budget: u64) -> [u64; 5] {
+pub fn fewest(rows: &[u64], colours: &mut [u8], budget: u64) -> [u64; 6] {
     // SAFETY: as in `validity`.
     walk(unsafe { raw::slotsheet_fewest(rows.as_ptr(), rows.len(), colours.as_mut_ptr(), colours.len(), budget) })
 }
 
-pub fn plain(rows: &[u64], colours: &mut [u8], budget: u64) -> [u64; 5] {
+pub fn plain(rows: &[u64], colours: &mut [u8], budget: u64) -> [u64; 6] {
     // SAFETY: as in `validity`.
     walk(unsafe { raw::slotsheet_plain(rows.as_ptr(), rows.len(), colours.as_mut_ptr(), colours.len(), budget) })
 }

@@ -6,7 +6,7 @@ use bench::lists::Numbers;
 use bench::{described, Walk};
 use second::list::Reading;
 use second::sheet::{self, Text};
-use second::{colouring, list, matrix, Refusal, Refused, BYTES};
+use second::{clique, colouring, list, matrix, Refusal, Refused, BYTES};
 
 use crate::calls::{self, Calls, Lent, FILL, PLAIN, REPEATS};
 use crate::inputs::{colours, list_of, matrix as any_matrix, sample, Sample};
@@ -18,13 +18,21 @@ const ROW: u64 = 0xA5A5_A5A5_A5A5_A5A5;
 /// Nodes of each walk that is stopped early, for the tests' patience.
 const PART: u64 = 100_000;
 
-/// A walk's answer as its five numbers.
-fn walk_numbers(answer: Result<bench::Walked, Refused>) -> [u64; 5] {
+/// A walk's answer as its six numbers.
+fn walk_numbers(answer: Result<bench::Walked, Refused>) -> [u64; 6] {
     match answer {
-        Ok(walked) => [0, 0, walked.k, walked.nodes, walked.complete],
-        Err(Refused { why: Refusal::Budget, place, .. }) => [6, 0, 0, place, 0],
-        Err(Refused { why, place, .. }) => [why.number(), place, 0, 0, 0],
+        Ok(walked) => [0, 0, walked.k, walked.nodes, walked.complete, walked.clique],
+        Err(Refused { why: Refusal::Budget, place, .. }) => [6, 0, 0, place, 0, 0],
+        Err(Refused { why, place, .. }) => [why.number(), place, 0, 0, 0, 0],
     }
+}
+
+/// An accepted walk's clique: the second program's, a set of entries that all clash with one another, at most k of them.
+fn clique_is(rows: &[u64], k: u64, clique: u64) {
+    assert_eq!(clique, clique::set(rows), "{rows:?}");
+    let members = clique::members(rows);
+    assert!(members.iter().all(|&i| members.iter().all(|&j| i == j || matrix::has(rows, i, j))), "{rows:?}");
+    assert!(members.len() as u64 <= k, "{rows:?}");
 }
 
 /// An answer of one number, with what is said where it is refused.
@@ -42,13 +50,16 @@ fn read_numbers(answer: Result<usize, Refused>) -> [usize; 4] {
 }
 
 /// Both walks of one list, buffer length and budget: numbers, colours and all memory around them. The bounded walk's answer is returned.
-fn compared(rows: &[u64], room: usize, budget: u64) -> [u64; 5] {
-    type Call = fn(&[u64], &mut [u8], u64) -> [u64; 5];
+fn compared(rows: &[u64], room: usize, budget: u64) -> [u64; 6] {
+    type Call = fn(&[u64], &mut [u8], u64) -> [u64; 6];
     let same = |proved: Call, hand: Walk| {
         let (mut lent, mut again) = (Lent::new(room, FILL), Lent::new(room, FILL));
         let said = proved(rows, lent.part(), budget);
         assert_eq!(said, walk_numbers(hand(rows, again.part(), budget)), "{rows:?} {room} {budget}");
         assert_eq!(lent, again, "{rows:?} {room} {budget}");
+        if said[0] == 0 {
+            clique_is(rows, said[2], said[5]);
+        }
         said
     };
     same(calls::plain, described::plain);
@@ -131,7 +142,8 @@ fn stored_walks() {
     for (name, k, nodes) in lines("expected").into_iter().filter(|(_, _, nodes)| *nodes < 100_000) {
         let rows = stored(&name);
         let mut lent = Lent::new(rows.len(), FILL);
-        assert_eq!(calls::fewest(&rows, lent.part(), BUDGET), [0, 0, k, nodes, 0], "{name}");
+        assert_eq!(calls::fewest(&rows, lent.part(), BUDGET), [0, 0, k, nodes, 0, clique::set(&rows)], "{name}");
+        clique_is(&rows, k, clique::set(&rows));
         let mut out = [0; slotsheet::SHEET_BYTES];
         let [refusal, _, length] = calls::write_sheet(lent.part(), &mut out);
         assert_eq!(refusal, 0, "{name}");
@@ -148,7 +160,7 @@ fn spent_walks() {
         let rows = stored(&name);
         let budget = if name == "myciel5" { BUDGET } else { PART };
         let (mut lent, untouched) = (Lent::new(rows.len(), FILL), Lent::new(rows.len(), FILL));
-        assert_eq!(calls::fewest(&rows, lent.part(), budget), [number, 0, 0, budget.min(nodes), 0], "{name}");
+        assert_eq!(calls::fewest(&rows, lent.part(), budget), [number, 0, 0, budget.min(nodes), 0, 0], "{name}");
         assert_eq!(lent, untouched, "{name}");
     }
 }
@@ -195,8 +207,8 @@ fn damaged_matrices() {
         let [refusal, place, _] = numbers(judged.map(|()| 0));
         assert_eq!(calls::validity(&rows), [refusal, place], "{rows:?}");
         let bounds = match described::bounds(&rows) {
-            Ok((clique, mycielskian)) => [[0, 0, clique as usize], [0, 0, mycielskian as usize]],
-            Err(_) => [[refusal, place, 0]; 2],
+            Ok((clique, mycielskian)) => [[0, 0, u64::from(clique.count_ones()), clique::set(&rows)], [0, 0, u64::from(mycielskian), 0]],
+            Err(_) => [[refusal as u64, place as u64, 0, 0]; 2],
         };
         assert_eq!(calls::bounds(&rows), bounds, "{rows:?}");
         let room = drawn.below(rows.len() as u64 + 3) as usize;
@@ -328,15 +340,17 @@ fn safe_wrappers() {
         let rows = any_matrix(&mut drawn);
         let [clique, mycielskian] = calls::bounds(&rows);
         assert_eq!(same(slotsheet::validity(&rows).map(|()| 0))[..2], calls::validity(&rows));
-        assert_eq!(same(slotsheet::clique_bound(&rows)), clique);
-        assert_eq!(same(slotsheet::mycielskian_bound(&rows)), mycielskian);
+        let wide = |said: [usize; 3], members| [said[0] as u64, said[1] as u64, said[2] as u64, members];
+        let found = slotsheet::clique_bound(&rows);
+        assert_eq!(wide(same(found.map(|clique| clique.size)), found.map_or(0, |clique| clique.members)), clique);
+        assert_eq!(wide(same(slotsheet::mycielskian_bound(&rows)), 0), mycielskian);
         let (mut out, mut again) = (vec![FILL; BYTES], vec![FILL; BYTES]);
         assert_eq!(same(slotsheet::write_list(&rows, &mut out)), calls::write_list(&rows, &mut again));
         for walk in [slotsheet::fewest, slotsheet::plain].iter().zip([calls::fewest, calls::plain]) {
             let said = match walk.0(&rows, &mut out[..60], 30) {
-                Ok(walked) => [0, 0, walked.k as u64, walked.nodes, walked.leaves],
-                Err(refused) if refused.why == slotsheet::Refusal::Budget => [6, 0, 0, refused.place, 0],
-                Err(refused) => [refused.why.number() as u64, refused.place, 0, 0, 0],
+                Ok(walked) => [0, 0, walked.k as u64, walked.nodes, walked.leaves, walked.clique],
+                Err(refused) if refused.why == slotsheet::Refusal::Budget => [6, 0, 0, refused.place, 0, 0],
+                Err(refused) => [refused.why.number() as u64, refused.place, 0, 0, 0, 0],
             };
             assert_eq!(said, walk.1(&rows, &mut again[..60], 30));
         }

@@ -3,7 +3,7 @@
 use bench::lists::{random, Numbers};
 use bench::{described, tuned, Walk, Walked};
 use second::matrix::{all_divisions, groups, is_clash_free, rows_of};
-use second::{colouring, Refusal, Refused};
+use second::{clique, colouring, Refusal, Refused};
 
 use crate::cases;
 use crate::inputs::list_of;
@@ -25,29 +25,30 @@ fn spent(nodes: u64) -> Result<Walked, Refused> {
 #[test]
 fn the_papers_table() {
     let every: Vec<u8> = (0..64).collect();
-    type Row<'a> = (Vec<u64>, u64, u64, Option<u64>, &'a [u8]);
+    type Row<'a> = (Vec<u64>, u64, u64, Option<u64>, &'a [u8], u64);
+    // Behind the paper's figures the clique, as a set.
     let table: [Row; 10] = [
-        (vec![], 0, 1, Some(1), &[]),
-        (vec![0], 1, 1, Some(1), &[0]),
-        (vec![0, 0], 1, 3, Some(3), &[0, 0]),
-        (vec![2, 1], 2, 1, Some(1), &[0, 1]),
-        (vec![0; 3], 1, 5, Some(9), &[0, 0, 0]),
-        (rows_of(3, &[(0, 1), (1, 2)]), 2, 3, Some(3), &[0, 1, 0]),
-        (rows_of(4, &[(0, 1), (1, 2), (2, 3), (0, 3)]), 2, 5, Some(7), &[0, 1, 0, 1]),
-        (five_cycle(), 3, 5, Some(21), &[0, 1, 0, 1, 2]),
-        (complete(64), 64, 1, Some(1), &every),
-        (vec![0; 64], 1, 127, None, &[0; 64]),
+        (vec![], 0, 1, Some(1), &[], 0),
+        (vec![0], 1, 1, Some(1), &[0], 1),
+        (vec![0, 0], 1, 3, Some(3), &[0, 0], 1),
+        (vec![2, 1], 2, 1, Some(1), &[0, 1], 3),
+        (vec![0; 3], 1, 5, Some(9), &[0, 0, 0], 1),
+        (rows_of(3, &[(0, 1), (1, 2)]), 2, 3, Some(3), &[0, 1, 0], 3),
+        (rows_of(4, &[(0, 1), (1, 2), (2, 3), (0, 3)]), 2, 5, Some(7), &[0, 1, 0, 1], 3),
+        (five_cycle(), 3, 5, Some(21), &[0, 1, 0, 1, 2], 3),
+        (complete(64), 64, 1, Some(1), &every, u64::MAX),
+        (vec![0; 64], 1, 127, None, &[0; 64], 1),
     ];
-    for (rows, k, nodes, twice_p_less_one, expected) in table {
+    for (rows, k, nodes, twice_p_less_one, expected, clique) in table {
         for walk in BOUNDED {
             let mut colours = vec![0xA5; rows.len() + 2];
-            assert_eq!(walk(&rows, &mut colours, u64::MAX), Ok(Walked { k, nodes, complete: 0 }));
+            assert_eq!(walk(&rows, &mut colours, u64::MAX), Ok(Walked { k, nodes, complete: 0, clique }));
             assert_eq!(&colours[..rows.len()], expected);
             assert_eq!(colours[rows.len()..], [0xA5; 2]);
         }
         if let Some(count) = twice_p_less_one {
             let walked = described::plain(&rows, &mut vec![0; rows.len()], u64::MAX);
-            assert_eq!(walked, Ok(Walked { k, nodes: count, complete: count.div_ceil(2) }));
+            assert_eq!(walked, Ok(Walked { k, nodes: count, complete: count.div_ceil(2), clique }));
         }
     }
 }
@@ -72,7 +73,7 @@ fn the_papers_refusals() {
         assert!(walk(&five_cycle(), &mut colours, 5).is_ok());
     }
     let walked = described::plain(&five_cycle(), &mut [0; 5], 21);
-    assert_eq!(walked, Ok(Walked { k: 3, nodes: 21, complete: 11 }));
+    assert_eq!(walked, Ok(Walked { k: 3, nodes: 21, complete: 11, clique: 3 }));
     assert_eq!(described::plain(&five_cycle(), &mut [0; 5], 20), spent(20));
 }
 
@@ -124,11 +125,12 @@ fn against_all_divisions(rows: &[u64]) {
     assert!(walked.nodes < 2 * p);
     let mut colours = vec![0; rows.len()];
     let plain = described::plain(rows, &mut colours, 2 * p - 1);
-    assert_eq!(plain, Ok(Walked { k: walked.k, nodes: 2 * p - 1, complete: p }));
+    assert_eq!(plain, Ok(Walked { k: walked.k, nodes: 2 * p - 1, complete: p, clique: clique::set(rows) }));
     assert!(is_clash_free(rows, &colours));
     assert_eq!(groups(&colours), Ok(fewest));
     let (clique, mycielskian) = described::bounds(rows).expect("a list");
-    assert!(clique <= mycielskian && mycielskian as usize <= fewest);
+    assert_eq!((clique, walked.clique), (clique::set(rows), clique));
+    assert!(clique.count_ones() <= mycielskian && mycielskian as usize <= fewest);
 }
 
 #[test]
@@ -159,5 +161,5 @@ fn long_lists_against_the_second_program() {
         }
     }
     assert!(ended >= cases(20), "{ended}");
-    assert_eq!(described::bounds(&complete(64)), Ok((64, 64)));
+    assert_eq!(described::bounds(&complete(64)), Ok((u64::MAX, 64)));
 }

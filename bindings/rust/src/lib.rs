@@ -13,6 +13,7 @@
 //! let mut colours = [0; slotsheet::ENTRIES];
 //! let walked = slotsheet::fewest(&rows[..n], &mut colours, 1_000_000).unwrap();
 //! assert_eq!((walked.k, walked.nodes), (2, 3));
+//! assert_eq!(walked.clique, 0b011); // entries 1 and 2 clash: one sitting won't do
 //! let mut out = [0; slotsheet::SHEET_BYTES];
 //! let length = slotsheet::write_sheet(&colours[..n], &mut out).unwrap();
 //! assert_eq!(&out[..length], b"groups 2\nsize 2\n1\n3\nsize 1\n2\n");
@@ -45,6 +46,17 @@ pub struct Walked {
     pub nodes: u64,
     /// The plain walk's number of complete graphs; 0 for the bounded walk.
     pub leaves: u64,
+    /// The members of the list's clique, as [`clique_bound`] has them: they say why it can't be fewer than their number, which may be below k.
+    pub clique: u64,
+}
+
+/// Entries that all clash with one another, so that no two of them can be in one group.
+#[derive(Clone, Copy, Debug, PartialEq, Eq)]
+pub struct Clique {
+    /// How many there are: no division has fewer groups.
+    pub size: usize,
+    /// As a set: bit i says that entry i is one.
+    pub members: u64,
 }
 
 /// One of the two texts of a check.
@@ -126,11 +138,16 @@ pub fn validity(rows: &[u64]) -> Result<(), Refused> {
     told(said.refusal, said.row as u64, ())
 }
 
-/// The clique bound: 1 to 4.
-pub fn clique_bound(rows: &[u64]) -> Result<usize, Refused> {
+/// The clique bound, with the clique: 1 to 4.
+///
+/// ```
+/// let clique = slotsheet::clique_bound(&[0b110, 0b101, 0b011, 0]).unwrap();
+/// assert_eq!(clique, slotsheet::Clique { size: 3, members: 0b111 });
+/// ```
+pub fn clique_bound(rows: &[u64]) -> Result<Clique, Refused> {
     // SAFETY: as in `validity`.
     let said = unsafe { raw::slotsheet_clique_bound(rows.as_ptr(), rows.len()) };
-    told(said.refusal, said.row as u64, said.bound)
+    told(said.refusal, said.row as u64, Clique { size: said.bound, members: said.members })
 }
 
 /// The Mycielskian bound: 1 to 4.
@@ -142,7 +159,7 @@ pub fn mycielskian_bound(rows: &[u64]) -> Result<usize, Refused> {
 
 fn walked(said: raw::Walk) -> Result<Walked, Refused> {
     let place = if said.refusal == Refusal::Budget as usize { said.nodes } else { said.row as u64 };
-    told(said.refusal, place, Walked { k: said.k, nodes: said.nodes, leaves: said.leaves })
+    told(said.refusal, place, Walked { k: said.k, nodes: said.nodes, leaves: said.leaves, clique: said.clique })
 }
 
 /// The fewest groups: 1 to 4, 5, 7, 6. Writes the group number of each of the n entries.

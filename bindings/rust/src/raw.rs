@@ -11,6 +11,7 @@ pub struct Bound {
     pub refusal: usize,
     pub row: usize,
     pub bound: usize,
+    pub members: u64,
 }
 
 #[repr(C)]
@@ -20,6 +21,7 @@ pub struct Walk {
     pub k: usize,
     pub nodes: u64,
     pub leaves: u64,
+    pub clique: u64,
 }
 
 #[repr(C)]
