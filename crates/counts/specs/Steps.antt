@@ -5,8 +5,9 @@
 --   four p q r s v      : how many of four rows have v
 --   Fits c p q r s      : four rows more leave every count below 128
 --   Absorbed c p q r s d : d has at each number what c has, and how many of four rows have it
---   Leads f apart gap m : m has who is greatest by f in apart; all others are behind by the gap at the least
---   IsNarrowed m slice weight r : with the weight for those in a slice, r has who is greatest, where m had
+--   Leads f apart gap top m : m has who is greatest by f in apart, with top; all others are behind by the gap at the least
+--   Ahead f apart gap m : the same, with whatever the greatest have
+--   IsNarrowed m slice r : with any weight for those in a slice, r has who is greatest, where m had
 --   IsBorrowed slice digit b r : at each number below 64, r has whether digit and what b has, taken from the slice, borrow from the next
 --
 -- Assumes nothing.
@@ -18,7 +19,6 @@ use Rattle.sets.specs.Lists.{bit}
 use Rattle.sets.specs.Set.{has, size}
 use Rattle.counts.specs.Counts.{held, value}
 use Rattle.counts.specs.declared.Counts.{Counts}
-use Rattle.counts.specs.declared.Most.{Most}
 use Rattle.counts.specs.declared.Pulled.{Pulled}
 use Rattle.counts.specs.declared.Sum.{Sum}
 
@@ -42,15 +42,19 @@ Fits c p q r s = (v : ℕ) → value c v + four p q r s v < 128
 abbrev pub Absorbed : Counts → ℕ → ℕ → ℕ → ℕ → Counts → Type 0
 Absorbed c p q r s d = (v : ℕ) → value d v ≡ value c v + four p q r s v
 
-pub record Leads (f : ℕ → ℕ) (apart gap : ℕ) (m : Most) : Type 0 where
-  pub within : (v : ℕ) → T (has (m .having) v) → T (has apart v)
-  pub same : (v : ℕ) → T (has (m .having) v) → f v ≡ m .count
-  pub behind : (v : ℕ) → T (has apart v) → ¬ T (has (m .having) v) → f v + gap ≤ m .count
-  pub some : ¬ (apart ≡ 0) → ¬ (m .having ≡ 0)
+pub record Leads (f : ℕ → ℕ) (apart gap top m : ℕ) : Type 0 where
+  pub within : (v : ℕ) → T (has m v) → T (has apart v)
+  pub same : (v : ℕ) → T (has m v) → f v ≡ top
+  pub behind : (v : ℕ) → T (has apart v) → ¬ T (has m v) → f v + gap ≤ top
+  pub some : ¬ (apart ≡ 0) → ¬ (m ≡ 0)
 
-pub record IsNarrowed (m : Most) (slice weight : ℕ) (r : Most) : Type 0 where
-  pub few : r .count ≤ m .count + weight
-  pub leads : (f : ℕ → ℕ) (apart : ℕ) → Leads f apart (2 * weight) m → Leads (λ v. f v + weight * bit (has slice v)) apart weight r
+pub record Ahead (f : ℕ → ℕ) (apart gap m : ℕ) : Type 0 where
+  pub top : ℕ
+  pub leads : Leads f apart gap top m
+
+abbrev pub IsNarrowed : ℕ → ℕ → ℕ → Type 0
+IsNarrowed m slice r =
+    (f : ℕ → ℕ) (apart weight : ℕ) → Ahead f apart (2 * weight) m → Ahead (λ v. f v + weight * bit (has slice v)) apart weight r
 
 abbrev pub IsBorrowed : ℕ → ℕ → ℕ → ℕ → Type 0
 IsBorrowed slice digit b r =

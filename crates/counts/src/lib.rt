@@ -6,7 +6,7 @@ use sets::less;
 use sets::lowest;
 use sets::meet;
 use sets::rest;
-ghost use Prim.Native.Nat.{_+_, _<_};
+ghost use Prim.Native.Nat.{_<_};
 ghost use Rattle.counts.specs.Counts.{Counted, IsMost, IsAtLeast};
 ghost use Rattle.counts.specs.Steps.{IsHalf, IsSum, IsPulled, Fits, Absorbed, IsNarrowed, IsBorrowed};
 
@@ -19,12 +19,6 @@ pub struct Counts {
     pub s4: u64,
     pub s5: u64,
     pub s6: u64,
-}
-
-// The greatest count, and the numbers that have it.
-pub struct Most {
-    pub count: usize,
-    pub having: u64,
 }
 
 // Sums of digits: their ones and their twos.
@@ -129,35 +123,27 @@ pub fn counted(rows: &[u64; 64], near: u64) -> Counts
 }
 
 // One slice lower: those that have it lead the others, where there are any.
-fn narrow(m: Most, slice: u64, weight: usize) -> Most
-    requires { ⌜ m .count + weight < 128 ⌝ }
-    ensures { λ r. ⌜ IsNarrowed m slice weight r ⌝ }
+fn narrow(leading: u64, slice: u64) -> u64
+    ensures { λ r. ⌜ IsNarrowed leading slice r ⌝ }
 {
-    let having = meet(m.having, slice);
+    let having = meet(leading, slice);
     if having == 0 {
-        return m;
+        return leading;
     }
-    Most {
-        count: m.count + weight,
-        having: having,
-    }
+    having
 }
 
-// The greatest count in apart, and who has it there.
-pub fn greatest(c: Counts, apart: u64) -> Most
-    ensures { λ m. ⌜ IsMost c apart m ⌝ }
+// Who has the greatest count in apart.
+pub fn greatest(c: Counts, apart: u64) -> u64
+    ensures { λ r. ⌜ IsMost c apart r ⌝ }
 {
-    let m = Most {
-        count: 0,
-        having: apart,
-    };
-    let m = narrow(m, c.s6, 64);
-    let m = narrow(m, c.s5, 32);
-    let m = narrow(m, c.s4, 16);
-    let m = narrow(m, c.s3, 8);
-    let m = narrow(m, c.s2, 4);
-    let m = narrow(m, c.s1, 2);
-    narrow(m, c.s0, 1)
+    let m = narrow(apart, c.s6);
+    let m = narrow(m, c.s5);
+    let m = narrow(m, c.s4);
+    let m = narrow(m, c.s3);
+    let m = narrow(m, c.s2);
+    let m = narrow(m, c.s1);
+    narrow(m, c.s0)
 }
 
 // One digit of what is taken from every count: those that borrow from the next slice.

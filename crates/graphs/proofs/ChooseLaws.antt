@@ -8,18 +8,17 @@ use Prim.Native.Nat.{ℕ, zero, suc, _+_, _≤_, _<_}
 use native.Mathlib.Numerals.{add-one}
 use native.Mathlib.Decide.{decLt}
 use native.Mathlib.Omega.{arith}
-use lib.Dec.{T, eqb, leb, ltb, eqb→eq, ltb→lt, lt→ltb}
+use lib.Dec.{T, leb, ltb, ltb→lt, lt→ltb}
 use lib.ListN.{getD}
 use borrow.Author.Tests.{le-leb}
 use Rattle.sets.specs.Lists.{In, count, upto, members, select, cross, over}
 use Rattle.sets.specs.Set.{has, size, IsWithout, IsMeet, IsLess, IsLowest}
-use Rattle.sets.proofs.TestLaws.{and-l, and-r, and-t, eqb-of, T?, T→true, T-ext}
+use Rattle.sets.proofs.TestLaws.{and-l, and-r, and-t, T?, T→true, T-ext}
 use Rattle.sets.proofs.ListLaws.{count-le}
-use Rattle.sets.proofs.MemberLaws.{count-few, count-agree, count-narrow, members-agree, members-none, members-narrow, In-members}
-use Rattle.counts.specs.Counts.{held, value, Counted, IsMost, IsAtLeast}
+use Rattle.sets.proofs.MemberLaws.{count-agree, count-narrow, members-agree, members-none, members-narrow, In-members}
+use Rattle.counts.specs.Counts.{held, value, Counted, Most, IsMost, IsAtLeast}
 use Rattle.counts.specs.declared.Counts.{Counts}
-use Rattle.counts.specs.declared.Most.{Most}
-use Rattle.graphs.specs.Graph.{live, gap, common, pair}
+use Rattle.graphs.specs.Graph.{Graph, live, gap, degree, common, pair}
 use Rattle.graphs.specs.Held.{Held, HeldAt, view}
 use Rattle.graphs.specs.Acts.{lead, shared, sharedAt, Mutual, Hopeful}
 use Rattle.graphs.specs.declared.Node.{Node}
@@ -27,7 +26,8 @@ use Rattle.graphs.specs.declared.Lead.{Lead}
 use Rattle.graphs.proofs.GraphLaws.{gap-chosen, of-live}
 use Rattle.graphs.proofs.LoopLaws.{without-kept, kept-without, over-next, over-none}
 use Rattle.graphs.proofs.HeldLaws.{held-beyond, held-members}
-use Rattle.graphs.proofs.LeadLaws.{over-narrow, pairs, after, over-greatest, row-lead, cross-lead, Leads, leads-over, reach, leads-reach, row-grows, row-stays, lead-more, lead-less, lead-grows, lead-stays, lead-first}
+use Rattle.graphs.proofs.PassingLaws.{common-of-first, common-of-second, passed-over-first}
+use Rattle.graphs.proofs.LeadLaws.{over-narrow, pairs, after, over-greatest, row-lead, cross-lead, Leads, leads-over, reach, leads-reach, row-grows, lead-more, lead-less, lead-grows, lead-stays, lead-first}
 
 -- ---- one pair
 
@@ -45,6 +45,13 @@ module _ (cap : ℕ) (rows : List ℕ) (near u v m c : ℕ) (l : Lead) (h : IsMe
   pub lead-kept : c + 1 ≤ l .size → l ≡ lead (sharedAt cap rows near) u l v
   lead-kept b = sym (lead-less (sharedAt cap rows near) u l v (omega (arith, plus)))
 
+-- u has fewer neighbours than would lead: whoever it is paired with shares no more, so its row is passed over
+pub row-passed : (cap : ℕ) (rows : List ℕ) (near apart u : ℕ) (best : Lead) → size cap near < best .size
+    → best ≡ over (lead (sharedAt cap rows near) u) best (members (has apart) cap)
+row-passed cap rows near apart u best few =
+    sym (lead-stays (sharedAt cap rows near) u (members (has apart) cap) best
+    (λ v i. omega (arith, few, count-le (λ w. has near w && has (getD rows v zero) w) (has near) (upto cap) (λ w t. and-l (has near w) (has (getD rows v zero) w) t))))
+
 -- ---- all pairs of u at once
 
 -- the members of near in whose rows v is are those in v's row
@@ -56,47 +63,43 @@ held-shared rows near apart v m t =
     go true f = f tt
     go false f = refl
 
-module _ (rows : List ℕ) (near apart u : ℕ) (best : Lead) (c : Counts) (m : Most) (both : Mutual rows near apart) (is : Counted rows near c) (top : IsMost c apart m) where
-  value-shared : (v : ℕ) → T (has apart v) → value c v ≡ shared rows near v
-  value-shared v t = is v ∙ held-shared rows near apart v both t
+-- v is the lowest of those that share most, by the counts; `ones` is how many it shares
+module _ (rows : List ℕ) (near apart u : ℕ) (best : Lead) (c : Counts) (m v met ones : ℕ) (both : Mutual rows near apart) (is : Counted rows near c) (top : IsMost c apart m)
+    (low : IsLowest 64 m v) (h : IsMeet near (getD rows v zero) met) (e : ones ≡ size 64 met) where
+  value-shared : (w : ℕ) → T (has apart w) → value c w ≡ shared rows near w
+  value-shared w t = is w ∙ held-shared rows near apart w both t
 
-  -- no one has enough
-  pub most-behind : m .count < best .size → best ≡ over (lead (shared rows near) u) best (members (has apart) 64)
+  v-most : Most c apart v
+  v-most = top .most v (low .member)
+
+  v-shares : ones ≡ shared rows near v
+  v-shares = shared-is 64 rows near v met ones h e
+
+  v-greatest : (w : ℕ) → T (has apart w) → shared rows near w ≤ shared rows near v
+  v-greatest w t = omega (arith, v-most .greatest w t, value-shared w t, value-shared v (v-most .member))
+
+  -- it has not enough, so no one has
+  pub most-behind : ones + 1 ≤ best .size → best ≡ over (lead (shared rows near) u) best (members (has apart) 64)
   most-behind b =
       sym (lead-stays (shared rows near) u (members (has apart) 64) best
-      (λ v i. let t = In-members (has apart) 64 v i .1 in omega (arith, top .greatest v t, value-shared v t)))
+      (λ w i. omega (arith, v-shares, v-greatest w (In-members (has apart) 64 w i .1))))
 
-  module _ (v : ℕ) (low : IsLowest 64 (m .having) v) where
-    apart-and : T (has apart v && eqb (value c v) (m .count))
-    apart-and = subst T (top .having v) (low .member)
-
-    has-most : value c v ≡ m .count
-    has-most = eqb→eq (value c v) (m .count) (and-r (has apart v) (eqb (value c v) (m .count)) apart-and)
-
-    pub most-few : m .count ≤ 64
-    most-few = omega (arith, has-most, is v, count-few (λ w. has near w && has (getD rows w zero) v) 64)
-
-    -- the lowest of those that have most leads
-    pub most-leads : best .size ≤ m .count → record { size = m .count + 1; u = u; v = v } ≡ over (lead (shared rows near) u) best (members (has apart) 64)
-    most-leads b =
-        ap (λ (k : ℕ). record { size = k; u = u; v = v }) (add-one (m .count) ∙ ap suc (sym most-shared))
-        ∙ sym (lead-first (shared rows near) u (has apart) v in-apart less (λ j t. omega (arith, top .greatest j t, value-shared j t, most-shared)) 64 (low .below) best
-        (omega (arith, most-shared)))
-      where
-        in-apart : T (has apart v)
-        in-apart = and-l (has apart v) (eqb (value c v) (m .count)) apart-and
-
-        most-shared : shared rows near v ≡ m .count
-        most-shared = sym (value-shared v in-apart) ∙ has-most
-
-        less : (j : ℕ) → j < v → T (has apart j) → shared rows near j < shared rows near v
-        less j a t = go (decLt (shared rows near j) (shared rows near v))
-          where
-            go : Dec (shared rows near j < shared rows near v) → shared rows near j < shared rows near v
-            go (yes d) = d
-            go (no d) =
-                let e : value c j ≡ m .count = omega (arith, top .greatest j t, value-shared j t, most-shared) in
-                absurd (low .least j a (subst T (sym (top .having j)) (and-t (has apart j) (eqb (value c j) (m .count)) t (eqb-of (value c j) (m .count) e))))
+  -- it has enough, and is the first that has so many
+  pub most-leads : best .size < ones + 1 → record { size = ones + 1; u = u; v = v } ≡ over (lead (shared rows near) u) best (members (has apart) 64)
+  most-leads b =
+      ap (λ (k : ℕ). record { size = k; u = u; v = v }) (add-one ones ∙ ap suc v-shares)
+      ∙ sym (lead-first (shared rows near) u (has apart) v (v-most .member) less v-greatest 64 (low .below) best (omega (arith, v-shares)))
+    where
+      less : (j : ℕ) → j < v → T (has apart j) → shared rows near j < shared rows near v
+      less j a t = go (decLt (shared rows near j) (shared rows near v))
+        where
+          go : Dec (shared rows near j < shared rows near v) → shared rows near j < shared rows near v
+          go (yes d) = d
+          go (no d) =
+              absurd (low .least j a (top .all j (record {
+                member = t;
+                greatest = λ w q. omega (arith, v-greatest w q, value-shared w q, value-shared j t);
+              })))
 
 -- who has as many may lead
 pub least-hopeful : (c : Counts) (need left r : ℕ) → IsAtLeast c need left r → Hopeful c need left r
@@ -120,14 +123,16 @@ module _ (cap : ℕ) (rows : List ℕ) (live : ℕ) where
   abbrev pub open? : ℕ × ℕ → Bool
   open? p = (has live (p .1) && ltb (p .0) (p .1)) && not (has (getD rows (p .0) zero) (p .1) && has live (p .1))
 
-  abbrev pub sharing : ℕ × ℕ → ℕ
-  sharing p = count (λ w. edge (p .0) w && edge (p .1) w) (upto cap)
+  abbrev inWords : Graph
+  inWords = record { rep = λ i. i; adj = edge }
 
-  -- how many neighbours one has bounds what it shares
-  share-few : (x y : ℕ) → sharing (x, y) ≤ sharedAt cap rows live x
-  share-few x y =
-      count-le (λ w. edge x w && edge y w) (λ w. has live w && has (getD rows x zero) w) (upto cap)
-      (λ w t. and-r (has live x) (has live w && has (getD rows x zero) w) (and-l (edge x w) (edge y w) t))
+  abbrev pub sharing : ℕ × ℕ → ℕ
+  sharing p = common cap inWords p
+
+  -- a row has the neighbours that the graph has, if not more
+  degree-few : (x : ℕ) → degree cap inWords x ≤ sharedAt cap rows live x
+  degree-few x =
+      count-le (λ w. edge x w) (λ w. has live w && has (getD rows x zero) w) (upto cap) (λ w t. and-r (has live x) (has live w && has (getD rows x zero) w) t)
 
   -- what is left of the live vertices: of those after one that is left only such are out as have too few neighbours to lead
   pub record Hoping (need left : ℕ) : Type 0 where
@@ -153,45 +158,15 @@ module _ (cap : ℕ) (rows : List ℕ) (live : ℕ) where
         and-t (has live v && ltb u v) (not (has (getD rows u zero) v && has live v)) (and-t (has live v) (ltb u v) (rest .within v (k .0)) (lt→ltb u v (k .1)))
         (subst (λ (b : Bool). T (not b)) (is-near v) (and-r (has next v) (not (has near v)) s))
 
-    -- who is passed over has too few neighbours
-    passed-few : (v : ℕ) → T (open? (u, v)) → ¬ T (has apart v) → sharedAt cap rows near v < best .size
-    passed-few v t q = omega (arith, near-few, rest .behind u v (low .member) (and-l (has live v) (ltb u v) s) b gone)
-      where
-        s : T (has live v && ltb u v)
-        s = and-l (has live v && ltb u v) (not (has (getD rows u zero) v && has live v)) t
-
-        b : u < v
-        b = ltb→lt u v (and-r (has live v) (ltb u v) s)
-
-        gone : ¬ T (has left v)
-        gone l =
-            q (subst T (sym (is-apart v)) (and-t (has next v) (not (has near v)) (kept-without left u next v out l (λ e. let z : ⊥ = omega (arith, b) in z))
-            (subst (λ (c : Bool). T (not c)) (sym (is-near v)) (and-r (has live v && ltb u v) (not (has (getD rows u zero) v && has live v)) t))))
-
-        near-few : sharedAt cap rows near v ≤ sharedAt cap rows live v
-        near-few =
-            count-le (λ w. has near w && has (getD rows v zero) w) (λ w. has live w && has (getD rows v zero) w) (upto cap)
-            (λ w m. and-t (has live w) (has (getD rows v zero) w)
-            (and-r (has (getD rows u zero) w) (has live w) (subst T (is-near w) (and-l (has near w) (has (getD rows v zero) w) m)))
-            (and-r (has near w) (has (getD rows v zero) w) m))
-
-    -- so all that are open to u give what those give that are left
-    row-same : over (lead (sharedAt cap rows near) u) best (members (has apart) cap) ≡ over (lead (sharedAt cap rows near) u) best (members (λ y. open? (u, y)) cap)
-    row-same =
-        over-narrow (lead (sharedAt cap rows near) u) (λ l. best .size ≤ l .size) (λ y. open? (u, y)) (has apart) apart-open
-        (λ l v h. lead-grows (sharedAt cap rows near) u l v (best .size) h)
-        (λ l v h t q. lead-less (sharedAt cap rows near) u l v (omega (arith, passed-few v t q))) cap best (omega arith) .0
-
-    row-shared : (v : ℕ) → In v (members (λ y. open? (u, y)) cap) → sharedAt cap rows near v ≡ sharing (u, v)
-    row-shared v i = count-agree cap (λ w. has near w && has (getD rows v zero) w) (λ w. edge u w && edge v w) (λ w b. same w)
+    -- what u shares with one that is open to it, as the row has it
+    row-shared : (v : ℕ) → T (open? (u, v)) → sharedAt cap rows near v ≡ sharing (u, v)
+    row-shared v t = count-agree cap (λ w. has near w && has (getD rows v zero) w) (λ w. edge u w && edge v w) (λ w b. same w)
       where
         lu : has live u ≡ true
         lu = T→true (has live u) (rest .within u (low .member))
 
         lv : has live v ≡ true
-        lv =
-            let t = In-members (λ y. open? (u, y)) cap v i .1 in
-            T→true (has live v) (and-l (has live v) (ltb u v) (and-l (has live v && ltb u v) (not (has (getD rows u zero) v && has live v)) t))
+        lv = T→true (has live v) (and-l (has live v) (ltb u v) (and-l (has live v && ltb u v) (not (has (getD rows u zero) v && has live v)) t))
 
         alike : (a b l : Bool) → ((a && l) && b) ≡ ((true && (l && a)) && (true && (l && b)))
         alike true true true = refl
@@ -208,10 +183,33 @@ module _ (cap : ℕ) (rows : List ℕ) (live : ℕ) where
             ap (λ (t : Bool). t && has (getD rows v zero) w) (is-near w) ∙ alike (has (getD rows u zero) w) (has (getD rows v zero) w) (has live w)
             ∙ sym (ap₂ (λ (s t : Bool). (s && (has live w && has (getD rows u zero) w)) && (t && (has live w && has (getD rows v zero) w))) lu lv)
 
+    -- who is passed over as second has too few neighbours
+    passed-few : (v : ℕ) → T (open? (u, v)) → ¬ T (has apart v) → sharedAt cap rows near v < best .size
+    passed-few v t q =
+        omega (arith, row-shared v t, common-of-second cap inWords u v, degree-few v, rest .behind u v (low .member) (and-l (has live v) (ltb u v) s) b gone)
+      where
+        s : T (has live v && ltb u v)
+        s = and-l (has live v && ltb u v) (not (has (getD rows u zero) v && has live v)) t
+
+        b : u < v
+        b = ltb→lt u v (and-r (has live v) (ltb u v) s)
+
+        gone : ¬ T (has left v)
+        gone l =
+            q (subst T (sym (is-apart v)) (and-t (has next v) (not (has near v)) (kept-without left u next v out l (λ e. let z : ⊥ = omega (arith, b) in z))
+            (subst (λ (c : Bool). T (not c)) (sym (is-near v)) (and-r (has live v && ltb u v) (not (has (getD rows u zero) v && has live v)) t))))
+
+    -- so all that are open to u give what those give that are left
+    row-same : over (lead (sharedAt cap rows near) u) best (members (has apart) cap) ≡ over (lead (sharedAt cap rows near) u) best (members (λ y. open? (u, y)) cap)
+    row-same =
+        over-narrow (lead (sharedAt cap rows near) u) (λ l. best .size ≤ l .size) (λ y. open? (u, y)) (has apart) apart-open
+        (λ l v h. lead-grows (sharedAt cap rows near) u l v (best .size) h)
+        (λ l v h t q. lead-less (sharedAt cap rows near) u l v (omega (arith, passed-few v t q))) cap best (omega arith) .0
+
     row-leads : (o : Option (ℕ × ℕ)) → Leads sharing best o → Leads sharing (over (lead (sharedAt cap rows near) u) best (members (has apart) cap)) (row-lead sharing open? cap o u)
     row-leads o h =
         subst (λ (l : Lead). Leads sharing l (row-lead sharing open? cap o u)) (sym row-same)
-        (leads-over sharing (sharedAt cap rows near) u (members (λ y. open? (u, y)) cap) row-shared best o h)
+        (leads-over sharing (sharedAt cap rows near) u (members (λ y. open? (u, y)) cap) (λ v i. row-shared v (In-members (λ y. open? (u, y)) cap v i .1)) best o h)
 
   -- ---- the loop over the rows
 
@@ -256,7 +254,7 @@ module _ (cap : ℕ) (rows : List ℕ) (live : ℕ) where
       leads = leads′;
       same = over-narrow (row-lead sharing open? cap) (λ o. new .size ≤ reach sharing o) (has next) (has kept) into
           (λ o x h. omega (arith, row-grows sharing x (members (λ y. open? (x, y)) cap) o))
-          (λ o x h t q. row-stays sharing x (members (λ y. open? (x, y)) cap) o (λ y i. omega (arith, few x t q, share-few x y))) cap top′
+          (λ o x h t q. passed-over-first cap inWords x o (omega (arith, few x t q, degree-few x)) open? cap) cap top′
           (omega (arith, leads-reach sharing new top′ leads′)) .0
           ∙ over-next (row-lead sharing open? cap) (s .top) top′ left u next low out refl ∙ s .same;
     }

@@ -158,6 +158,11 @@ pub leads-reach : (f : ℕ × ℕ → ℕ) (l : Lead) (o : Option (ℕ × ℕ)) 
 leads-reach f l none h = h
 leads-reach f l (some p) h = h .0
 
+-- a pair that has not more than what leads
+pub after-stays : (f : ℕ × ℕ → ℕ) (p : ℕ × ℕ) (o : Option (ℕ × ℕ)) → f p < reach f o → after f o p ≡ o
+after-stays f p none c = absurd (not-suc-le-zero c)
+after-stays f p (some q) c = ap (λ (t : Bool). cond t (some q) (some p)) (le-leb (f p) (f q) (omega arith))
+
 module _ (f : ℕ × ℕ → ℕ) (x : ℕ) where
   after-grows : (o : Option (ℕ × ℕ)) (p : ℕ × ℕ) → reach f o ≤ reach f (after f o p)
   after-grows none p = omega arith
@@ -174,11 +179,7 @@ module _ (f : ℕ × ℕ → ℕ) (x : ℕ) where
   -- a row none of whose pairs has more than what leads
   pub row-stays : (vs : List ℕ) (o : Option (ℕ × ℕ)) → ((y : ℕ) → In y vs → f (x, y) < reach f o) → over (after f) o (pairs x vs) ≡ o
   row-stays [] o h = refl
-  row-stays (y ∷ vs) o h = ap (λ k. over (after f) k (pairs x vs)) (stay o (h y (inl refl))) ∙ row-stays vs o (λ z i. h z (inr i))
-    where
-      stay : (o : Option (ℕ × ℕ)) → f (x, y) < reach f o → after f o (x, y) ≡ o
-      stay none c = absurd (not-suc-le-zero c)
-      stay (some q) c = ap (λ (t : Bool). cond t (some q) (some (x, y))) (le-leb (f (x, y)) (f q) (omega arith))
+  row-stays (y ∷ vs) o h = ap (λ k. over (after f) k (pairs x vs)) (after-stays f (x, y) o (h y (inl refl))) ∙ row-stays vs o (λ z i. h z (inr i))
 
 -- ---- whom the code may pass over, and who leads in the end
 

@@ -8,5 +8,6 @@ pub mod GroupingLaws
 pub mod LoopLaws
 pub mod HeldLaws
 pub mod LeadLaws
+pub mod PassingLaws
 pub mod ChooseLaws
 pub mod ColourLaws

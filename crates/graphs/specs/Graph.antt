@@ -8,6 +8,7 @@
 --   merge u v g        : v leaves, u has the neighbours of both, neighbours of v become neighbours of u
 --   separate u v g     : u and v become adjacent
 --   gap n g (u, v)     : u < v are live and not adjacent
+--   degree n g x       : how many neighbours x has
 --   common n g (u, v)  : how many neighbours u and v have in common
 --   pair n g           : of the gaps the one with most common neighbours, then smallest u, then smallest v; none in a complete graph
 --   complete n g       : every two live vertices are adjacent
@@ -52,6 +53,9 @@ separate u v g = record {
 
 abbrev pub gap : ℕ → Graph → ℕ × ℕ → Bool
 gap n g p = ltb (p .0) (p .1) && (live n g (p .0) && (live n g (p .1) && not (g .adj (p .0) (p .1))))
+
+abbrev pub degree : ℕ → Graph → ℕ → ℕ
+degree n g x = count (λ w. g .adj x w) (upto n)
 
 abbrev pub common : ℕ → Graph → ℕ × ℕ → ℕ
 common n g p = count (λ w. g .adj (p .0) w && g .adj (p .1) w) (upto n)

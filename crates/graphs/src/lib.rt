@@ -154,7 +154,8 @@ fn by_pairs(rows: &[u64; 64], u: usize, near: u64, apart: u64, best: Lead) -> Le
     best
 }
 
-// The same. Where apart is small beside near, pairs cost less than counts.
+// The same. A row with fewer neighbours than would lead is passed over. Where apart is small beside near, pairs cost less than counts; else the counts
+// tell who shares most, and all others are passed over.
 fn led(rows: &[u64; 64], u: usize, near: u64, apart: u64, best: Lead) -> Lead
     requires { ⌜ Mutual (now rows) near apart ⌝ }
     ensures { λ r. ⌜ r ≡ over (lead (shared (now (rows .entry)) near) u) best (members (member apart) 64) ⌝ }
@@ -162,19 +163,23 @@ fn led(rows: &[u64; 64], u: usize, near: u64, apart: u64, best: Lead) -> Lead
     if apart == 0 {
         return best;
     }
-    if 2 * size(apart) <= size(near) + 8 {
-        return by_pairs(rows, u, near, apart, best);
-    }
-    let m = greatest(counted(rows, near), apart);
-    if m.count < best.size {
+    let degree = size(near);
+    if degree < best.size {
         return best;
     }
-    let v = lowest(m.having);
-    Lead {
-        size: m.count + 1,
-        u: u,
-        v: v,
+    if 2 * size(apart) <= degree + 8 {
+        return by_pairs(rows, u, near, apart, best);
     }
+    let v = lowest(greatest(counted(rows, near), apart));
+    let most = size(meet(near, rows[v])) + 1;
+    if best.size < most {
+        return Lead {
+            size: most,
+            u: u,
+            v: v,
+        };
+    }
+    best
 }
 
 // Of left who has neighbours enough to lead, where more are needed than before.
@@ -202,7 +207,7 @@ pub fn choose_among(live: u64, rows: &[u64; 64]) -> Choice
     let mut left = live;
     while left != 0 {
         let u = lowest(left);
-        left = without(left, u);
+        left = rest(left);
         let near = meet(rows[u], live);
         let apart = less(left, near);
         let before = best.size;

@@ -25,8 +25,8 @@ loop-holds c = scanned-none 64 (c .before .args .rows .now) (c .before .args .li
 lowest-requires : tie.Need-lowest-requires Inv-loop μ-loop
 lowest-requires c κs = search needs
 
-without-requires : tie.Need-without-requires Inv-loop μ-loop
-without-requires c κs = search needs
+rest-requires : tie.Need-rest-requires Inv-loop μ-loop
+rest-requires c κs = search needs
 
 mul-meet : tie.Need-mul-meet Inv-loop μ-loop
 mul-meet c = search needs
@@ -45,10 +45,10 @@ led-requires c κs =
     let a = c .before .before .before .before .before .before .before .before in
     let l = c .before .before .before .before .before .before .loop in
     let low = c .before .before .before .before .lowest in
-    let w = c .before .before .before .without in
+    let w = c .before .before .before .rest in
     let met = c .before .meet in
     row-mutual (holding (a .args .live) (a .args .rows .now) (a .pre .0)) (a .pre .1) (low .result) (w .result) (met .result) (c .less .result)
-    (λ x t. l .inv .rest .within x (without-kept (l .left) (low .result) (w .result) x (w .ensures) t .0)) (met .ensures) (c .less .ensures)
+    (λ x t. l .inv .rest .within x (without-kept (l .left) (low .result) (w .result) x (w .ensures (low .result) (low .ensures)) t .0)) (met .ensures) (c .less .ensures)
 
 hopeful-requires : tie.Need-hopeful-requires Inv-loop μ-loop
 hopeful-requires c κs = search needs
@@ -57,11 +57,11 @@ loop-less : tie.Need-loop-less Inv-loop μ-loop
 loop-less c =
     let l = c .before .before .before .before .before .before .before .before .loop in
     let low = c .before .before .before .before .before .before .lowest in
-    let w = c .before .before .before .before .before .without in
+    let w = c .before .before .before .before .before .rest in
     omega (
       arith,
       count-le (has (c .hopeful .result)) (has (w .result)) (upto 64) (c .hopeful .ensures .within),
-      left-falls (l .left) (low .result) (w .result) (low .ensures) (w .ensures),
+      left-falls (l .left) (low .result) (w .result) (low .ensures) (w .ensures (low .result) (low .ensures)),
     )
 
 loop-again : tie.Need-loop-again Inv-loop μ-loop
@@ -70,15 +70,15 @@ loop-again c =
     let counted = c .before .before .before .before .before .before .before .before .before .counted in
     let l = c .before .before .before .before .before .before .before .before .loop in
     let u = c .before .before .before .before .before .before .lowest in
-    let w = c .before .before .before .before .before .without in
+    let w = c .before .before .before .before .before .rest in
     let met = c .before .before .before .meet in
     let cut = c .before .before .less in
     let led = c .before .led in
-    scanned-next 64 (a .args .rows .now) (a .args .live) (l .best) (l .left) (u .result) (w .result) (met .result) (cut .result) (l .inv) (u .ensures) (w .ensures)
+    scanned-next 64 (a .args .rows .now) (a .args .live) (l .best) (l .left) (u .result) (w .result) (met .result) (cut .result) (l .inv) (u .ensures) (w .ensures (u .result) (u .ensures))
     (met .ensures) (cut .ensures) (led .result) (led .ensures) (c .hopeful .result) (c .hopeful .ensures .within)
     (λ v t q.
     let e = degree-is (holding (a .args .live) (a .args .rows .now) (a .pre .0)) (a .pre .1) (counted .result) (counted .ensures) v
-    (l .inv .rest .within v (without-kept (l .left) (u .result) (w .result) v (w .ensures) t .0)) in
+    (l .inv .rest .within v (without-kept (l .left) (u .result) (w .result) v (w .ensures (u .result) (u .ensures)) t .0)) in
     omega (arith, e, c .hopeful .ensures .out v t q))
 
 returns : tie.Need-returns Inv-loop μ-loop
@@ -106,7 +106,7 @@ choose-among-spec =
     counted-requires
     loop-holds
     lowest-requires
-    without-requires
+    rest-requires
     mul-meet
     element-copy-out-meet
     meet-requires

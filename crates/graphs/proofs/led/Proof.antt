@@ -3,7 +3,7 @@ use mathlib.Core.Path.{sym}
 use native.Mathlib.Omega.{arith}
 use Rattle.graphs.specs.Acts.{lead, shared}
 use Rattle.graphs.proofs.LoopLaws.{size-le, over-none}
-use Rattle.graphs.proofs.ChooseLaws.{most-behind, most-few, most-leads}
+use Rattle.graphs.proofs.ChooseLaws.{row-passed, most-behind, most-leads}
 use borrow.Author.Needs.{needs}
 use Rattle.graphs.proofs.led.Statement.{statement}
 use Rattle.graphs.proofs.led.Tie as tie
@@ -16,20 +16,25 @@ returns c =
 size-requires : tie.Need-size-requires
 size-requires c κs = search needs
 
-mul-if2 : tie.Need-mul-if2
-mul-if2 c = omega (arith, c .size .ensures, size-le 64 (c .before .before .args .apart))
+returns-2 : tie.Need-returns-2
+returns-2 c =
+    let a = c .before .before .before .before .args in
+    row-passed 64 (a .rows .now) (a .near) (a .apart) (a .u) (a .best) (omega (arith, c .before .before .size .ensures, c .if2 .taken))
 
 size-requires-2 : tie.Need-size-requires-2
 size-requires-2 c κs = search needs
 
-add-if2 : tie.Need-add-if2
-add-if2 c = omega (arith, c .size2 .ensures, size-le 64 (c .before .before .before .args .near))
+mul-if3 : tie.Need-mul-if3
+mul-if3 c = omega (arith, c .size2 .ensures, size-le 64 (c .before .before .before .before .before .args .apart))
+
+add-if3 : tie.Need-add-if3
+add-if3 c = omega (arith, c .before .before .before .size .ensures, size-le 64 (c .before .before .before .before .before .args .near))
 
 by-pairs-requires : tie.Need-by-pairs-requires
 by-pairs-requires c κs = search needs
 
-returns-2 : tie.Need-returns-2
-returns-2 c = search needs
+returns-3 : tie.Need-returns-3
+returns-3 c = search needs
 
 counted-requires : tie.Need-counted-requires
 counted-requires c κs = search needs
@@ -37,36 +42,47 @@ counted-requires c κs = search needs
 greatest-requires : tie.Need-greatest-requires
 greatest-requires c κs = search needs
 
-returns-3 : tie.Need-returns-3
-returns-3 c =
-    let s = c .before .before .before .before .before .before .before .before .before in
-    let a = s .args in
-    let k = c .before .before .before .before .counted in
-    let m = c .before .before .before .greatest in
-    most-behind (a .rows .now) (a .near) (a .apart) (a .u) (a .best) (k .result) (m .result) (s .pre) (k .ensures) (m .ensures) (c .if3 .taken)
-
 lowest-requires : tie.Need-lowest-requires
-lowest-requires c κs = c .before .before .before .greatest .ensures .some (c .before .before .before .before .before .before .before .before .if1 .left)
+lowest-requires c κs = c .greatest .ensures .some (c .before .before .before .before .before .before .before .if1 .left)
 
-add-t9 : tie.Need-add-t9
-add-t9 c =
-    let s = c .before .before .before .before .before .before .before .before .before .before .before in
-    let low = c .before .lowest in
-    let a = s .args in
-    let k = c .before .before .before .before .before .before .counted in
-    let m = c .before .before .before .before .before .greatest in
-    let few = most-few (a .rows .now) (a .near) (a .apart) (a .u) (a .best) (k .result) (m .result) (s .pre) (k .ensures) (m .ensures) (low .result) (low .ensures) in
-    omega arith
+mul-meet : tie.Need-mul-meet
+mul-meet c = search needs
+
+element-copy-out-meet : tie.Need-element-copy-out-meet
+element-copy-out-meet c = search needs
+
+meet-requires : tie.Need-meet-requires
+meet-requires c κs = search needs
+
+size-requires-3 : tie.Need-size-requires-3
+size-requires-3 c κs = search needs
+
+add-most : tie.Need-add-most
+add-most c = omega (arith, c .size3 .ensures, size-le 64 (c .before .meet .result))
 
 returns-4 : tie.Need-returns-4
 returns-4 c =
-    let s = c .before .before .before .before .before .before .before .before .before .before .before in
-    let low = c .before .lowest in
+    let s = c .before .before .before .before .before .before .before .before .before .before .before .before .before .before in
     let a = s .args in
-    let k = c .before .before .before .before .before .before .counted in
-    let m = c .before .before .before .before .before .greatest in
-    most-leads (a .rows .now) (a .near) (a .apart) (a .u) (a .best) (k .result) (m .result) (s .pre) (k .ensures) (m .ensures) (low .result) (low .ensures)
-    (c .before .before .if3 .left)
+    let ones = c .before .before .size3 in
+    let met = c .before .before .before .meet in
+    let low = c .before .before .before .before .before .lowest in
+    let m = c .before .before .before .before .before .before .greatest in
+    let k = c .before .before .before .before .before .before .before .counted in
+    most-leads (a .rows .now) (a .near) (a .apart) (a .u) (a .best) (k .result) (m .result) (low .result) (met .result) (ones .result) (s .pre) (k .ensures) (m .ensures)
+    (low .ensures) (met .ensures) (ones .ensures) (c .if4 .taken)
+
+returns-5 : tie.Need-returns-5
+returns-5 c =
+    let s = c .before .before .before .before .before .before .before .before .before .before .before .before .before .before in
+    let a = s .args in
+    let ones = c .before .before .size3 in
+    let met = c .before .before .before .meet in
+    let low = c .before .before .before .before .before .lowest in
+    let m = c .before .before .before .before .before .before .greatest in
+    let k = c .before .before .before .before .before .before .before .counted in
+    most-behind (a .rows .now) (a .near) (a .apart) (a .u) (a .best) (k .result) (m .result) (low .result) (met .result) (ones .result) (s .pre) (k .ensures) (m .ensures)
+    (low .ensures) (met .ensures) (ones .ensures) (c .if4 .left)
 
 pub led-spec : {M : Type 1} → statement M
 led-spec =
@@ -74,14 +90,19 @@ led-spec =
     (tie.spec
     returns
     size-requires
-    mul-if2
-    size-requires-2
-    add-if2
-    by-pairs-requires
     returns-2
+    size-requires-2
+    mul-if3
+    add-if3
+    by-pairs-requires
+    returns-3
     counted-requires
     greatest-requires
-    returns-3
     lowest-requires
-    add-t9
-    returns-4)
+    mul-meet
+    element-copy-out-meet
+    meet-requires
+    size-requires-3
+    add-most
+    returns-4
+    returns-5)
