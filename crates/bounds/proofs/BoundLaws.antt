@@ -127,5 +127,12 @@ module _ (n : ℕ) (clash : ℕ → ℕ → Bool) (v : Valid n clash) (k : ℕ) 
   pub clique-chromatic : cliqueBound n (graph n clash) ≤ k
   clique-chromatic = lower-chromatic (cliqueBound n (graph n clash)) (clique-lower n (graph n clash) (good-graph n clash v))
 
+  -- what the clique's set shows: entries that all clash with one another, no more of them than the chromatic number
+  pub clique-shows : (c : ℕ) → c ≡ cliqueSet n (graph n clash) → AllClash n clash c × (size n c ≤ k)
+  clique-shows c e = (
+    subst (AllClash n clash) (sym e) (clique-clash n clash v),
+    le-trans (le-of-eq (ap (size n) e ∙ clique-many n clash v)) clique-chromatic,
+  )
+
   pub mycielskian-chromatic : mycielskian n (graph n clash) ≤ k
   mycielskian-chromatic = lower-chromatic (mycielskian n (graph n clash)) (mycielskian-lower n (graph n clash) (good-graph n clash v))

@@ -16,7 +16,7 @@ use Rattle.sittings.specs.declared.numbers.WriteNumbers.{WriteNumbers}
 use Rattle.sittings.specs.declared.numbers.CheckNumbers.{CheckNumbers}
 use Rattle.sittings.specs.declared.numbers.PartNumbers.{PartNumbers}
 use Rattle.sittings.proofs.Unique as face
-use Rattle.capi.specs.Calls.{ValidityCall, BoundCall, WalkCall, ReadCall, ListCall, SheetCall, CheckCall, PartCall, AnswerCall}
+use Rattle.capi.specs.Calls.{ValidityCall, BoundCall, WalkCall, PlacingCall, ReadCall, ListCall, SheetCall, CheckCall, PartCall, AnswerCall}
 
 -- the two laws, over any numbers f of answers: one answer has one set of numbers, and the lent memory is as the answer leaves it
 numbers-unique : {A R : Type 0} (f : A → R) {a b : A} {r q : R} → r ≡ f a → q ≡ f b → a ≡ b → r ≡ q
@@ -48,6 +48,11 @@ pub fewest-unique : (rows before : List ℕ) (budget : ℕ) (r q : WalkNumbers) 
     → (r ≡ q) × (after ≡ other)
 fewest-unique rows before budget r q after other x y =
     call-unique walkNumbers (x .numbers) (y .numbers) (face.fewest-unique rows before budget (x .answer) (y .answer) after other (x .promised) (y .promised))
+
+pub fewest-by-placing-unique : (rows before : List ℕ) (budget : ℕ) (r q : WalkNumbers) (after other : List ℕ) → PlacingCall rows before budget r after
+    → PlacingCall rows before budget q other → (r ≡ q) × (after ≡ other)
+fewest-by-placing-unique rows before budget r q after other x y =
+    call-unique walkNumbers (x .numbers) (y .numbers) (face.fewest-by-placing-unique rows before budget (x .answer) (y .answer) after other (x .promised) (y .promised))
 
 pub plain-unique : (rows before : List ℕ) (budget : ℕ) (r q : WalkNumbers) (after other : List ℕ) → WalkCall plainWalk rows before budget r after
     → WalkCall plainWalk rows before budget q other → (r ≡ q) × (after ≡ other)

@@ -1,6 +1,6 @@
 -- What a call from C promises: the numbers of an answer that meets the face's promise, and the lent memory as that leaves it.
 --
---   ValidityCall, BoundCall, WalkCall, ReadCall, ListCall, SheetCall, CheckCall, PartCall, AnswerCall : one for each kind of call; `plain` says by
+--   ValidityCall, BoundCall, WalkCall, PlacingCall, ReadCall, ListCall, SheetCall, CheckCall, PartCall, AnswerCall : one for each kind of call; `plain` says by
 --   which reading a clash text is read
 --
 -- Assumes nothing.
@@ -27,6 +27,7 @@ use Rattle.sheets.specs.declared.Checked.{Checked}
 use Rattle.sheets.specs.declared.Part.{Part}
 use Rattle.answers.specs.Printed.{AnswerPromise}
 use Rattle.answers.specs.declared.Printed.{Printed}
+use Rattle.sittings.specs.Placing.{PlacingPromise}
 use Rattle.sittings.specs.Numbers.{verdictNumbers, boundNumbers, walkNumbers, readNumbers, listNumbers, sheetNumbers, checkNumbers, partNumbers, printedNumbers}
 use Rattle.sittings.specs.declared.numbers.VerdictNumbers.{VerdictNumbers}
 use Rattle.sittings.specs.declared.numbers.BoundNumbers.{BoundNumbers}
@@ -45,6 +46,11 @@ pub record BoundCall (f s : ℕ → Graph → ℕ) (rows : List ℕ) (r : BoundN
   pub answer : Bound
   pub promised : Answers f s rows answer
   pub numbers : r ≡ boundNumbers answer
+
+pub record PlacingCall (rows before : List ℕ) (budget : ℕ) (r : WalkNumbers) (after : List ℕ) : Type 0 where
+  pub answer : Answer
+  pub promised : PlacingPromise rows before budget answer after
+  pub numbers : r ≡ walkNumbers answer
 
 pub record WalkCall (walk : ℕ → (ℕ → ℕ → Bool) → State) (rows before : List ℕ) (budget : ℕ) (r : WalkNumbers) (after : List ℕ) : Type 0 where
   pub answer : Answer

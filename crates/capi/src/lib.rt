@@ -11,7 +11,7 @@ ghost use mathlib.Core.Bool.{true, false};
 ghost use Rattle.bounds.specs.Names.{cliqueSet, cliqueBound, mycielskian};
 ghost use Rattle.bounds.specs.Lent.{noMembers};
 ghost use Rattle.zykov.specs.Walk.{boundedWalk, plainWalk};
-ghost use Rattle.capi.specs.Calls.{ValidityCall, BoundCall, WalkCall, ReadCall, ListCall, SheetCall, CheckCall, PartCall, AnswerCall};
+ghost use Rattle.capi.specs.Calls.{ValidityCall, BoundCall, WalkCall, PlacingCall, ReadCall, ListCall, SheetCall, CheckCall, PartCall, AnswerCall};
 
 #[no_mangle]
 pub extern "C" fn slotsheet_validity(rows: &[u64]) -> VerdictNumbers
@@ -50,6 +50,18 @@ pub extern "C" fn slotsheet_plain(rows: &[u64], colours: &mut [u8], budget: u64)
     ensures { λ r. ⌜ WalkCall plainWalk (now (rows .entry)) (now (colours .entry)) budget r (now (colours .exit)) ⌝ }
 {
     let a = sittings::plain(rows, colours, budget);
+    sittings::numbers::of_walk(a)
+}
+
+#[no_mangle]
+pub extern "C" fn slotsheet_fewest_by_placing(
+    rows: &[u64],
+    colours: &mut [u8],
+    budget: u64,
+) -> WalkNumbers
+    ensures { λ r. ⌜ PlacingCall (now (rows .entry)) (now (colours .entry)) budget r (now (colours .exit)) ⌝ }
+{
+    let a = sittings::fewest_by_placing(rows, colours, budget);
     sittings::numbers::of_walk(a)
 }
 

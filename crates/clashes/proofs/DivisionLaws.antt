@@ -1,10 +1,11 @@
--- Laws of divisions: `divisions n` has each of them exactly once, and every labelling has exactly one. Assumes nothing.
+-- Laws of divisions: how many groups there can be, and every entry alone; `divisions n` has each of them exactly once, and every labelling has exactly
+-- one. Assumes nothing.
 use mathlib.Core.Path.{_≡_, refl, sym, ap, _∙_, subst}
 use mathlib.Core.Logic.{_≢_}
 use mathlib.Core.HLevel.{Discrete}
 use mathlib.Core.Bool.{Bool}
 use mathlib.Core.List.{List, [], _∷_, map, head-eq-of-cons-eq, tail-eq-of-cons-eq}
-use Prim.Native.Nat.{ℕ, zero, suc, _+_, _<_, max}
+use Prim.Native.Nat.{ℕ, zero, suc, _+_, _≤_, _<_, max}
 use native.Mathlib.Nat.{le-of-suc-le-suc, not-suc-le-zero}
 use native.Mathlib.Decide.{ℕ-discrete}
 use native.Mathlib.Omega.{arith}
@@ -16,8 +17,25 @@ use Rattle.sets.proofs.TestLaws.{bit-one, bit-zero}
 use Rattle.sets.proofs.ListLaws.{count-append, count-map, length-table, In-table, table-In}
 use Rattle.clashes.specs.Labels.{place, distinct}
 use Rattle.clashes.specs.Colouring.{cardinality}
-use Rattle.clashes.specs.Divisions.{at, Canon, groups, heads, divs, division}
+use Rattle.clashes.specs.Divisions.{at, Canon, groups, heads, divs, division, alone}
 use Rattle.clashes.proofs.NumberLaws.{place-inj, distinct-new, number-length, number-canon, number-groups, number-is, number-unique}
+
+-- no more groups than entries
+pub groups-fit : (m : ℕ) (c : List ℕ) → Canon m c → groups m c ≤ m + length c
+groups-fit m [] g = omega arith
+groups-fit m (k ∷ c) g = omega (arith, groups-fit (max m (suc k)) c (g .1), g .0)
+
+-- every entry alone is as many groups as there are entries
+pub alone-groups : (n : ℕ) → groups 0 (alone n) ≡ n
+alone-groups n = go 0 n (λ i. i) (λ i. omega arith) ∙ omega arith
+  where
+    go : (m n : ℕ) (f : ℕ → ℕ) → ((i : ℕ) → f i ≡ m + i) → groups m (table f n) ≡ m + n
+    go m zero f h = omega arith
+    go m (suc n) f h =
+        ap (λ k. groups k (table (λ i. f (suc i)) n)) e ∙ go (suc m) n (λ i. f (suc i)) (λ i. omega (arith, h (suc i))) ∙ omega arith
+      where
+        e : max m (suc (f zero)) ≡ suc m
+        e = omega (arith, h 0)
 
 -- ---- each canonical list stands in `divs` once
 

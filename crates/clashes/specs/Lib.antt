@@ -1,5 +1,6 @@
--- What is meant: labels, colourings, divisions, the lent matrix.
+-- What is meant: labels, colourings, divisions, the lent matrix, room for colours.
 pub mod Labels
 pub mod Colouring
 pub mod Divisions
 pub mod Matrix
+pub mod Room

@@ -70,10 +70,6 @@ module _ {A : Type 0} where
   map-map f g [] = refl
   map-map f g (x ∷ l) = ap (λ (m : List A). f (g x) ∷ m) (map-map f g l)
 
-  pub over-append : {B : Type 0} (f : B → A → B) (s : B) (k l : List A) → over f s (k ++ l) ≡ over f (over f s k) l
-  over-append f s [] l = refl
-  over-append f s (x ∷ k) l = over-append f (f s x) k l
-
 -- ---- a list's elements as a test
 
 pub in-of : (x : ℕ) (c : List ℕ) → T (isIn x c) → In x c

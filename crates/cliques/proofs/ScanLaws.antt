@@ -9,13 +9,14 @@ use lib.Dec.{T, eqb}
 use borrow.Author.Tests.{ne-eqb}
 use Rattle.sets.specs.Lists.{In, keep, members}
 use Rattle.sets.proofs.TestLaws.{T-ext, and-l, and-r, and-t, and-true}
+use Rattle.sets.proofs.ListLaws.{over-append}
 use Rattle.sets.proofs.MemberLaws.{members-lowest}
 use Rattle.graphs.specs.Graph.{Graph}
 use Rattle.graphs.specs.Good.{Live, Good}
 use Rattle.graphs.proofs.PairLaws.{ne-of, of-ne}
 use Rattle.cliques.specs.Clique.{isIn, admits, joined, IsClique}
 use Rattle.cliques.specs.Growth.{scan}
-use Rattle.cliques.proofs.ListLaws.{every-get, every-make, over-append, in-of, of-in}
+use Rattle.cliques.proofs.ListLaws.{every-get, every-make, in-of, of-in}
 
 module _ (g : Graph) where
   -- ---- one vertex

@@ -12,14 +12,10 @@ use native.Mathlib.Omega.{arith}
 use lib.Dec.{T, leb, ltb}
 use borrow.Author.Tests.{leb-true, leb-false, le-leb, lt-leb, lt-ltb, le-ltb}
 use Rattle.sets.specs.Lists.{In, table, keep, members, put, select, better, greatest, cross, over}
-use Rattle.sets.proofs.ListLaws.{table-suc}
+use Rattle.sets.proofs.ListLaws.{table-suc, over-append}
 use Rattle.sets.proofs.MemberLaws.{In-members}
 use Rattle.graphs.specs.Acts.{lead}
 use Rattle.graphs.specs.declared.Lead.{Lead}
-
-pub over-append : {A B : Type 0} (f : B → A → B) (s : B) (k l : List A) → over f s (k ++ l) ≡ over f (over f s k) l
-over-append f s [] l = refl
-over-append f s (x ∷ k) l = over-append f (f s x) k l
 
 -- who changes nothing may be left out
 pub over-narrow : {B : Type 0} (f : B → ℕ → B) (S : B → Type 0) (p q : ℕ → Bool) → ((v : ℕ) → T (q v) → T (p v)) → ((s : B) (v : ℕ) → S s → S (f s v))

@@ -1,4 +1,4 @@
--- Laws of lists: counts, tables, elements, lists with no element twice, selections, the greatest. Assumes nothing.
+-- Laws of lists: counts, folds, tables, elements, lists with no element twice, selections, the greatest. Assumes nothing.
 use mathlib.Core.Path.{_≡_, refl, sym, ap, _∙_, subst}
 use mathlib.Core.Logic.{_⊎_, inl, inr, _≢_}
 use mathlib.Core.Bool.{Bool, true, false, cond}
@@ -10,7 +10,7 @@ use native.Mathlib.Decide.{decLe}
 use native.Mathlib.Omega.{arith}
 use lib.Dec.{T, leb}
 use lib.ListN.{length, getD}
-use Rattle.sets.specs.Lists.{bit, In, NoDup, count, every, table, put, select, better, greatest}
+use Rattle.sets.specs.Lists.{bit, In, NoDup, count, every, table, put, select, better, greatest, over}
 use Rattle.sets.proofs.TestLaws.{and-l, and-r, bit-one, bit-zero}
 
 module _ {A : Type 0} where
@@ -43,6 +43,12 @@ module _ {A : Type 0} where
   count-lt p q (x ∷ l) h y (inl e) a b =
       omega (arith, bit-zero (p x) (λ t. a (rw e t)), bit-one (q x) (rw e at b), count-le p q l h)
   count-lt p q (x ∷ l) h y (inr i) a b = omega (arith, count-le p q (x ∷ []) h, count-lt p q l h y i a b)
+
+  -- ---- folds
+
+  pub over-append : {B : Type 0} (f : B → A → B) (s : B) (k l : List A) → over f s (k ++ l) ≡ over f (over f s k) l
+  over-append f s [] l = refl
+  over-append f s (x ∷ k) l = over-append f (f s x) k l
 
   -- ---- tables
 

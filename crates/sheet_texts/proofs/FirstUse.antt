@@ -65,8 +65,3 @@ module _ (c : List ℕ) (m i g : ℕ) (h : i < length c) (e : g ≡ getD c i 0) 
 
 pub number-end : (c : List ℕ) (m i : ℕ) → length c ≤ i → numberFrom m i (drop i c) ≡ Used m
 number-end c m i h = rw (drop-of-length-le c h)
-
--- no more groups than entries
-pub groups-fit : (m : ℕ) (c : List ℕ) → Canon m c → groups m c ≤ m + length c
-groups-fit m [] h = omega arith
-groups-fit m (x ∷ c) h = let r = groups-fit (max m (suc x)) c (h .1) in omega (arith, h .0)

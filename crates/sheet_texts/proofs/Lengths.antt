@@ -18,13 +18,13 @@ use lib.Dec.{eqb}
 use lib.ListN.{length, length-append}
 use Rattle.sets.specs.Lists.{put, table}
 use Rattle.clashes.specs.Divisions.{Canon, groups}
+use Rattle.clashes.proofs.DivisionLaws.{groups-fit}
 use Rattle.lines.specs.Numeral.{numeral, oneLine}
 use Rattle.lines.proofs.Writing.{one-length, length-one, two-digits}
 use Rattle.lines.proofs.Back.{numeral-length}
 use Rattle.lists.specs.Read.{mostEntries, longestText}
 use Rattle.sheets.specs.Check.{groupsWord, sizeWord}
 use Rattle.sheet_texts.specs.Sheet.{membersOf, memberLines, groupText, groupsText, sheetText}
-use Rattle.sheet_texts.proofs.FirstUse.{groups-fit}
 use Rattle.sheet_texts.proofs.Groups.{group-led}
 
 abbrev weigh : (ℕ → ℕ) → List ℕ → ℕ

@@ -21,6 +21,7 @@ use lib.Seq.{getD-set-same, getD-set-other, getD-take, length-take-le, ext-getD}
 use Rattle.sets.specs.Lists.{In, all, any, some?}
 use Rattle.sets.proofs.TestLaws.{and-l, and-r, and-t, or-l, or-r, or-cases, T→true, T→false, T-ext, any-make, any-get, eqb-of, all-make}
 use Rattle.clashes.specs.Divisions.{at, Canon, groups}
+use Rattle.clashes.proofs.DivisionLaws.{groups-fit}
 use Rattle.clashes.proofs.ColouringLaws.{canon-below}
 use Rattle.lines.specs.Text.{Text, linesOf}
 use Rattle.lines.specs.Numeral.{numeral, oneLine}
@@ -35,7 +36,6 @@ use Rattle.sheets.specs.declared.Step.{Step}
 use Rattle.sheets.specs.declared.Step.the-variants.{Stop, Count, Place}
 use Rattle.sheets.proofs.Steps.{at-member, at-size, at-groups}
 use Rattle.sheet_texts.specs.Sheet.{membersOf, memberLines, groupText, groupsText, sheetText, clashIn, orElse, clashFrom, clashLine}
-use Rattle.sheet_texts.proofs.FirstUse.{groups-fit}
 use Rattle.sheet_texts.proofs.Members.{members-le}
 use Rattle.sheet_texts.proofs.Lengths.{sheet-fits}
 use Rattle.sheet_texts.proofs.Groups.{Rising, rising-from, Led, group-led, members-risen, member-of, of-member}

@@ -32,6 +32,8 @@ use Rattle.sheets.proofs.Places as places
 use Rattle.answers.specs.Printed.{AnswerPromise, LongPromise}
 use Rattle.answers.specs.declared.Printed.{Printed}
 use Rattle.answers.proofs.Calls as answers
+use Rattle.sittings.specs.Placing.{PlacingPromise}
+use Rattle.sittings.proofs.Engines.{placing-unique}
 
 pub validity-unique : (rows : List ℕ) (a b : Verdict) → Judged rows a → Judged rows b → a ≡ b
 validity-unique = judged-unique
@@ -46,6 +48,10 @@ pub fewest-unique : (rows before : List ℕ) (budget : ℕ) (a b : Answer) (afte
     → Promised (boundedWalk mycielskian) rows before budget a after → Promised (boundedWalk mycielskian) rows before budget b other
     → (a ≡ b) × (after ≡ other)
 fewest-unique = promised-unique 64 (boundedWalk mycielskian)
+
+pub fewest-by-placing-unique : (rows before : List ℕ) (budget : ℕ) (a b : Answer) (after other : List ℕ) → PlacingPromise rows before budget a after
+    → PlacingPromise rows before budget b other → (a ≡ b) × (after ≡ other)
+fewest-by-placing-unique = placing-unique 64
 
 pub plain-unique : (rows before : List ℕ) (budget : ℕ) (a b : Answer) (after other : List ℕ) → Promised plainWalk rows before budget a after
     → Promised plainWalk rows before budget b other → (a ≡ b) × (after ≡ other)

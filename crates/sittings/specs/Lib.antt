@@ -1,2 +1,3 @@
--- Document 01's numbers of each answer.
+-- Document 01's numbers of each answer; and what is promised of the second engine.
 pub mod Numbers
+pub mod Placing

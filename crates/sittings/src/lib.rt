@@ -3,6 +3,7 @@
 // that stands a second time, either way round; the one whose name ends in `repeats` allows it. Both meet one promise.
 use answers::Printed;
 use bounds::Bound;
+use bounds::clique_of;
 use clashes::Verdict;
 use lists::Reading;
 use sheets::Checked;
@@ -13,6 +14,7 @@ ghost use Rattle.bounds.specs.Names.{cliqueSet, cliqueBound, mycielskian};
 ghost use Rattle.bounds.specs.Lent.{noMembers, Answers};
 ghost use Rattle.zykov.specs.Walk.{boundedWalk, plainWalk};
 ghost use Rattle.walk.specs.Promise.{Promised};
+ghost use Rattle.sittings.specs.Placing.{PlacingPromise};
 ghost use Rattle.lists.specs.Promise.{ReadPromise, WritePromise};
 ghost use Rattle.sheet_texts.specs.Promise.{WritePromise as SheetPromise};
 ghost use Rattle.sheets.specs.Promise.{CheckPromise, PreviewPromise};
@@ -54,6 +56,22 @@ pub fn plain(rows: &[u64], colours: &mut [u8], budget: u64) -> Answer
     ensures { λ r. ⌜ Promised plainWalk (now (rows .entry)) (now (colours .entry)) budget r (now (colours .exit)) ⌝ }
 {
     walk::plain(rows, colours, budget)
+}
+
+// The fewest sittings by the second engine, a search that never merges: k, its own nodes, and the clique, which the engine does not know. For testers.
+pub fn fewest_by_placing(rows: &[u64], colours: &mut [u8], budget: u64) -> Answer
+    ensures { λ r. ⌜ PlacingPromise (now (rows .entry)) (now (colours .entry)) budget r (now (colours .exit)) ⌝ }
+{
+    let a = placing::fewest_by_placing(rows, colours, budget);
+    match a {
+        placing::Answer::Accepted(k, nodes) => Answer::Accepted(k, nodes, 0, clique_of(rows)),
+        placing::Answer::Many => Answer::Many,
+        placing::Answer::Stray(row) => Answer::Stray(row),
+        placing::Answer::Itself(row) => Answer::Itself(row),
+        placing::Answer::OneSided(row) => Answer::OneSided(row),
+        placing::Answer::Short => Answer::Short,
+        placing::Answer::Budget(nodes) => Answer::Budget(nodes),
+    }
 }
 
 // Reads a clash text into the lent rows.

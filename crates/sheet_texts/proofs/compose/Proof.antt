@@ -3,8 +3,8 @@ use Prim.Native.Nat.{_≤_}
 use lib.ListN.{length}
 use native.Mathlib.Omega.{arith}
 use Rattle.clashes.specs.Divisions.{groups}
+use Rattle.clashes.proofs.DivisionLaws.{groups-fit}
 use Rattle.sheet_texts.specs.Sheet.{sheetText}
-use Rattle.sheet_texts.proofs.FirstUse.{groups-fit}
 use Rattle.sheet_texts.proofs.Lengths.{sheet-most}
 use Rattle.sheet_texts.proofs.Writes.{composed}
 use borrow.Author.Needs.{needs}
