@@ -33,7 +33,7 @@ extern "C" {
 #endif
 
 /* tools/bindings writes from here on, from bindings/interface.txt */
-#define SLOTSHEET_VERSION "4.0.0"
+#define SLOTSHEET_VERSION "4.1.0"
 
 #define SLOTSHEET_ENTRIES 64          /* the most entries of a list */
 #define SLOTSHEET_BYTES 65536         /* the most bytes of a text that is read */
@@ -161,6 +161,12 @@ struct slotsheet_walk slotsheet_fewest(const uint64_t *rows, size_t rows_length,
 
 /* The same without bounds: also returns the number of complete graphs. For small lists. */
 struct slotsheet_walk slotsheet_plain(const uint64_t *rows, size_t rows_length, uint8_t *colours, size_t colours_length, uint64_t budget);
+
+/* The same k by a second engine that owes nothing to the first, for testers: a search that never merges and has no bounds. It puts entry after entry
+   into every group that admits it and last into a new one. 1 to 5, then 6: `nodes` and the budget are its own, and its colours may be others than the
+   walk's. */
+struct slotsheet_walk slotsheet_fewest_by_placing(const uint64_t *rows, size_t rows_length, uint8_t *colours, size_t colours_length,
+                                                  uint64_t budget);
 
 /* Reads a clash text, whose lines are "p edge N M", "e U V" and comments, all those that begin with c: 18, then the first faulty line by 10, 21, 22
    or 23, then 11, 12, 13, 17, 14, 15, 20, then at the end 11, 16. Accepted, writes the first n rows; rows from n on stay. */

@@ -3,6 +3,7 @@
 //! - `described`: the bounded and the plain walk, straight from document 01's words;
 //! - `tuned`: the bounded walk made as fast as we could, with the same answers;
 //! - `reading`: a clash text in one pass;
+//! - `placed`: the second program's search by placing, in a walk's shape;
 //! - `lists`: lists to walk, random ones and those of a folder.
 
 pub mod described;
@@ -11,7 +12,7 @@ pub mod reading;
 pub mod sets;
 pub mod tuned;
 
-use second::{Refusal, Refused};
+use second::{clique, placing, Refusal, Refused};
 use sets::{below, bit, Members};
 
 /// What an accepted walk returns.
@@ -53,4 +54,11 @@ fn admit(rows: &[u64], colours: &[u8]) -> Result<(), Refused> {
         return Err(Refusal::Short.bare());
     }
     Ok(())
+}
+
+/// The second program's search by placing as a walk, with the list's clique beside k.
+pub fn placed(rows: &[u64], colours: &mut [u8], budget: u64) -> Result<Walked, Refused> {
+    let found = placing::fewest(rows, colours.len(), budget)?;
+    colours[..rows.len()].copy_from_slice(&found.colours);
+    Ok(Walked { k: found.k as u64, nodes: found.nodes, complete: 0, clique: clique::set(rows) })
 }

@@ -18,7 +18,7 @@ use std::path::{Path, PathBuf};
 use std::process::ExitCode;
 
 use bench::lists::load;
-use bench::{described, reading, tuned, Walk};
+use bench::{described, placed, reading, tuned, Walk};
 use clock::seconds;
 use second::{colouring, list, sheet, Refused};
 
@@ -28,6 +28,13 @@ const WALKS: &[(&str, Walk)] = &[
     ("tuned", tuned::fewest),
     #[cfg(feature = "proved")]
     ("proved", proved::fewest),
+];
+
+/// The searches by placing, which have counts of their own: the second program's, and the proved one.
+const PLACINGS: &[(&str, Walk)] = &[
+    ("second", placed),
+    #[cfg(feature = "proved")]
+    ("placing", proved::fewest_by_placing),
 ];
 
 type Bounds = fn(&[u64]) -> Result<(u64, u32), Refused>;
@@ -105,14 +112,14 @@ fn row(cells: &[String]) {
     println!("{:<16}{rest}", cells[0]);
 }
 
-/// What all walks answer on a list: k or "over", and nodes; none where they differ.
-fn answered(rows: &[u64]) -> Option<(String, u64)> {
+/// What all these walks answer on a list: k or "over", and nodes; none where they differ.
+fn answered(walks: &[(&str, Walk)], rows: &[u64]) -> Option<(String, u64)> {
     let answer = |walk: Walk| {
         let mut colours = vec![0; rows.len()];
         (walk(rows, &mut colours, BUDGET), colours)
     };
-    let first = answer(WALKS[0].1);
-    if WALKS[1..].iter().any(|(_, walk)| answer(*walk) != first) {
+    let first = answer(walks[0].1);
+    if walks[1..].iter().any(|(_, walk)| answer(*walk) != first) {
         return None;
     }
     Some(match first.0 {
@@ -121,14 +128,14 @@ fn answered(rows: &[u64]) -> Option<(String, u64)> {
     })
 }
 
-/// Seconds of each walk on a list.
-fn walked(rows: &[u64]) -> Vec<f64> {
+/// Seconds of each of these walks on a list.
+fn walked(walks: &[(&str, Walk)], rows: &[u64]) -> Vec<f64> {
     let call = |(_, walk): &(&str, Walk)| {
         let walk = *walk;
         let mut colours = vec![0; rows.len()];
         move || discard(walk(rows, &mut colours, BUDGET))
     };
-    let mut calls: Vec<_> = WALKS.iter().map(call).collect();
+    let mut calls: Vec<_> = walks.iter().map(call).collect();
     let mut calls: Vec<&mut dyn FnMut()> = calls.iter_mut().map(|call| call as &mut dyn FnMut()).collect();
     seconds(&mut calls, 0.3)
 }
@@ -153,11 +160,11 @@ fn walks(tests: &Path, word: &str) -> bool {
     let mut ratios = vec![Vec::new(); pairs().len()];
     for name in LISTS.iter().filter(|name| name.contains(word)) {
         let rows = named(tests, name);
-        let Some((k, nodes)) = answered(&rows) else {
+        let Some((k, nodes)) = answered(WALKS, &rows) else {
             println!("{name}: the walks differ");
             return false;
         };
-        let rates: Vec<f64> = walked(&rows).iter().map(|taken| nodes as f64 / taken / 1e3).collect();
+        let rates: Vec<f64> = walked(WALKS, &rows).iter().map(|taken| nodes as f64 / taken / 1e3).collect();
         let start = clock::now();
         discard(colouring::fewest(&rows));
         let second = (clock::now() - start) * 1e3;
@@ -173,6 +180,30 @@ fn walks(tests: &Path, word: &str) -> bool {
     for (ratios, pair) in ratios.iter().zip(pairs()) {
         let least = ratios.iter().copied().fold(f64::INFINITY, f64::min);
         println!("{}: geometric mean {:.2}, least {least:.2}", ratio_name(pair), geometric_mean(ratios));
+    }
+    true
+}
+
+/// Nodes per second of the searches by placing, and of the last of the walks beside them. False where answers differ.
+fn placings(tests: &Path, word: &str) -> bool {
+    println!("\nSearches by placing: thousand nodes per second of processor time, budget {BUDGET}; a walk's own nodes beside them");
+    let walk = &WALKS[WALKS.len() - 1..];
+    let mut head: Vec<String> = ["list", "k", "nodes"].map(String::from).to_vec();
+    head.extend(PLACINGS.iter().map(|(name, _)| name.to_string()));
+    head.extend(["walk's k".into(), "its nodes".into(), walk[0].0.to_string()]);
+    row(&head);
+    for name in LISTS.iter().filter(|name| name.contains(word)) {
+        let rows = named(tests, name);
+        let (Some((k, nodes)), Some((walk_k, walk_nodes))) = (answered(PLACINGS, &rows), answered(walk, &rows)) else {
+            println!("{name}: the searches by placing differ");
+            return false;
+        };
+        let rate = |nodes: u64| move |taken: f64| format!("{:.0}", nodes as f64 / taken / 1e3);
+        let mut cells = vec![name.to_string(), k, nodes.to_string()];
+        cells.extend(walked(PLACINGS, &rows).into_iter().map(rate(nodes)));
+        cells.extend([walk_k, walk_nodes.to_string()]);
+        cells.extend(walked(walk, &rows).into_iter().map(rate(walk_nodes)));
+        row(&cells);
     }
     true
 }
@@ -258,7 +289,8 @@ fn texts(tests: &Path) -> bool {
 /// One walk of one list: its nodes, or nothing where there is no such walk.
 fn once(tests: &Path, name: &str, walk: &str, budget: &str) -> ExitCode {
     let rows = named(tests, name);
-    let (Some((_, walk)), Ok(budget)) = (WALKS.iter().find(|(known, _)| *known == walk), budget.parse()) else {
+    let mut known = WALKS.iter().chain(PLACINGS);
+    let (Some((_, walk)), Ok(budget)) = (known.find(|(known, _)| *known == walk), budget.parse()) else {
         eprintln!("no walk '{walk}', or no budget '{budget}'");
         return ExitCode::FAILURE;
     };
@@ -285,7 +317,7 @@ fn main() -> ExitCode {
             return ExitCode::FAILURE;
         }
     };
-    if walks(&tests, word) && bounds(&tests, word) && texts(&tests) {
+    if walks(&tests, word) && placings(&tests, word) && bounds(&tests, word) && texts(&tests) {
         ExitCode::SUCCESS
     } else {
         ExitCode::FAILURE

@@ -9,9 +9,17 @@ fn refused(said: slotsheet::Refused) -> Refused {
     Refused { place: said.place, ..Refusal::Budget.bare() }
 }
 
-pub fn fewest(rows: &[u64], colours: &mut [u8], budget: u64) -> Result<Walked, Refused> {
-    let walked = slotsheet::fewest(rows, colours, budget).map_err(refused)?;
+fn answered(said: Result<slotsheet::Walked, slotsheet::Refused>) -> Result<Walked, Refused> {
+    let walked = said.map_err(refused)?;
     Ok(Walked { k: walked.k as u64, nodes: walked.nodes, complete: walked.leaves, clique: walked.clique })
+}
+
+pub fn fewest(rows: &[u64], colours: &mut [u8], budget: u64) -> Result<Walked, Refused> {
+    answered(slotsheet::fewest(rows, colours, budget))
+}
+
+pub fn fewest_by_placing(rows: &[u64], colours: &mut [u8], budget: u64) -> Result<Walked, Refused> {
+    answered(slotsheet::fewest_by_placing(rows, colours, budget))
 }
 
 pub fn bounds(rows: &[u64]) -> Result<(u64, u32), Refused> {

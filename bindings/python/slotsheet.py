@@ -49,12 +49,12 @@ from pathlib import Path
 
 __all__ = [
     "VERSION", "ENTRIES", "BYTES", "SHEET_BYTES", "LIST_BYTES", "NODES", "STACK_BYTES", "Refused", "Walked", "Clique", "Checked", "version", "rows_of", "validity",
-    "clique_bound", "mycielskian_bound", "fewest", "plain", "read_list", "read_list_repeats", "write_list", "write_sheet", "check_sheet",
+    "clique_bound", "mycielskian_bound", "fewest", "plain", "fewest_by_placing", "read_list", "read_list_repeats", "write_list", "write_sheet", "check_sheet",
     "check_sheet_repeats", "fault_line", "fault_line_repeats", "answer", "answer_repeats",
 ]
 
 # tools/bindings writes from here on, from bindings/interface.txt
-VERSION = "4.0.0"
+VERSION = "4.1.0"
 
 ENTRIES = 64  # the most entries of a list
 BYTES = 65_536  # the most bytes of a text that is read
@@ -188,6 +188,7 @@ _CALLS = {
     "mycielskian_bound": (_Bound, _ROWS),
     "fewest": (_Walk, _ROWS + _LENT + [c_uint64]),
     "plain": (_Walk, _ROWS + _LENT + [c_uint64]),
+    "fewest_by_placing": (_Walk, _ROWS + _LENT + [c_uint64]),
     "read_list": (_Reading, _TEXT + _ROWS),
     "read_list_repeats": (_Reading, _TEXT + _ROWS),
     "write_list": (_Writing, _ROWS + _LENT),
@@ -315,6 +316,16 @@ def fewest(rows, budget=NODES):
 def plain(rows, budget=NODES):
     """The same by the walk that has no bounds, which also counts complete graphs. For small lists."""
     return _walk(_library.slotsheet_plain, rows, budget)
+
+
+def fewest_by_placing(rows, budget=NODES):
+    """The same k by a second engine that owes nothing to the first, for testers: a search that never merges. Nodes and budget are its own, and its
+    colours may be others than the walk's.
+
+    >>> fewest_by_placing(rows_of(5, [(0, 1), (1, 2), (2, 3), (3, 4), (4, 0)]))
+    Walked(k=3, colours=[0, 1, 0, 1, 2], nodes=8, leaves=0, clique=[0, 1])
+    """
+    return _walk(_library.slotsheet_fewest_by_placing, rows, budget)
 
 
 def _read(call, text):

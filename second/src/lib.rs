@@ -4,6 +4,7 @@
 //! - `colouring`: the fewest groups, by saturation branch and bound (no merging, no Mycielskian bound, no node count);
 //! - `clique`: the clique that says why it can't be fewer, by document 01's rule;
 //! - `matrix`: what makes lent rows a list (1 to 4), and P by listing divisions;
+//! - `placing`: document 02's search that never merges, with its node count;
 //! - `list`: reading and writing a clash text; `shape`: what its lines may be, and the column at which one goes bad;
 //! - `sheet`: writing a sheet, checking one against a list, and the preview's part.
 
@@ -12,6 +13,7 @@ pub mod colouring;
 pub mod lines;
 pub mod list;
 pub mod matrix;
+pub mod placing;
 pub mod refusal;
 pub mod shape;
 pub mod sheet;

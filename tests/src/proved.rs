@@ -49,21 +49,80 @@ fn read_numbers(answer: Result<usize, Refused>) -> [usize; 4] {
     }
 }
 
-/// Both walks of one list, buffer length and budget: numbers, colours and all memory around them. The bounded walk's answer is returned.
+type Call = fn(&[u64], &mut [u8], u64) -> [u64; 6];
+
+/// One call for one list, buffer length and budget, against one that is written by hand: numbers, colours and all memory around them. The answer is
+/// returned.
+fn same(proved: Call, hand: Walk, rows: &[u64], room: usize, budget: u64) -> [u64; 6] {
+    let (mut lent, mut again) = (Lent::new(room, FILL), Lent::new(room, FILL));
+    let said = proved(rows, lent.part(), budget);
+    assert_eq!(said, walk_numbers(hand(rows, again.part(), budget)), "{rows:?} {room} {budget}");
+    assert_eq!(lent, again, "{rows:?} {room} {budget}");
+    if said[0] == 0 {
+        clique_is(rows, said[2], said[5]);
+    }
+    said
+}
+
+/// Both walks. The bounded walk's answer is returned.
 fn compared(rows: &[u64], room: usize, budget: u64) -> [u64; 6] {
-    type Call = fn(&[u64], &mut [u8], u64) -> [u64; 6];
-    let same = |proved: Call, hand: Walk| {
-        let (mut lent, mut again) = (Lent::new(room, FILL), Lent::new(room, FILL));
-        let said = proved(rows, lent.part(), budget);
-        assert_eq!(said, walk_numbers(hand(rows, again.part(), budget)), "{rows:?} {room} {budget}");
-        assert_eq!(lent, again, "{rows:?} {room} {budget}");
-        if said[0] == 0 {
-            clique_is(rows, said[2], said[5]);
+    same(calls::plain, described::plain, rows, room, budget);
+    same(calls::fewest, described::fewest, rows, room, budget)
+}
+
+/// The search by placing of one list, buffer length and budget, against the second program's.
+fn compared_by_placing(rows: &[u64], room: usize, budget: u64) -> [u64; 6] {
+    same(calls::fewest_by_placing, bench::placed, rows, room, budget)
+}
+
+/// Small lists by placing: the walk's k, a budget that is exact to one node, and smaller ones.
+#[test]
+fn small_lists_by_placing() {
+    let mut drawn = Numbers(47);
+    for _ in 0..cases(4_000) {
+        let rows = list_of(&mut drawn, 9);
+        let n = rows.len();
+        let said = compared_by_placing(&rows, n, 100_000);
+        let walked = calls::fewest(&rows, &mut vec![0; n], 100_000);
+        assert_eq!([said[0], said[2], said[5]], [0, walked[2], walked[5]], "{rows:?}");
+        assert_eq!(compared_by_placing(&rows, n + 3, said[3])[..2], [0, 0]);
+        assert_eq!(compared_by_placing(&rows, n, said[3] - 1)[0], 6);
+        compared_by_placing(&rows, n, drawn.below(said[3]));
+    }
+}
+
+/// Longer lists by placing, most of which the budget ends; where neither engine is refused, the walk's k.
+#[test]
+fn longer_lists_by_placing() {
+    let mut drawn = Numbers(48);
+    let (mut ended, mut spent) = (0, 0);
+    for _ in 0..cases(1_500) {
+        let rows = list_of(&mut drawn, 30);
+        let n = rows.len();
+        let said = compared_by_placing(&rows, n, 2_000);
+        let walked = calls::fewest(&rows, &mut vec![0; n], 2_000);
+        if [said[0], walked[0]] == [0, 0] {
+            assert_eq!([said[2], said[5]], [walked[2], walked[5]], "{rows:?}");
+            ended += 1;
         }
-        said
-    };
-    same(calls::plain, described::plain);
-    same(calls::fewest, described::fewest)
+        spent += usize::from(said[0] == 6);
+    }
+    assert!(ended > cases(700) && spent > cases(200), "{ended} {spent}");
+    for n in [40, 55, 63, 64] {
+        for percent in [0, 3, 50, 90, 97, 100] {
+            compared_by_placing(&bench::lists::random(&mut drawn, n, percent), 64, 1_000);
+        }
+    }
+}
+
+/// The queens of seven, where the walk spends its budget: seven groups, and 239,329 nodes by placing.
+#[test]
+fn queens_by_placing() {
+    let rows = stored("queen7_7");
+    assert_eq!(calls::fewest(&rows, &mut [0; 49], PART)[0], 6);
+    assert_eq!(compared_by_placing(&rows, 49, BUDGET)[..5], [0, 0, 7, 239_329, 0]);
+    assert_eq!(compared_by_placing(&rows, 50, 239_329)[0], 0);
+    assert_eq!(compared_by_placing(&rows, 49, 239_328)[..5], [6, 0, 0, 239_328, 0]);
 }
 
 #[test]
@@ -213,6 +272,7 @@ fn damaged_matrices() {
         assert_eq!(calls::bounds(&rows), bounds, "{rows:?}");
         let room = drawn.below(rows.len() as u64 + 3) as usize;
         compared(&rows, room, drawn.below(20));
+        compared_by_placing(&rows, room, drawn.below(20));
         let length = judged.map_or(0, |()| list::text_of(&rows).len());
         for room in [length, length.saturating_sub(1), length + 7] {
             let (mut lent, mut again) = (Lent::new(room, FILL), Lent::new(room, FILL));
@@ -346,7 +406,8 @@ fn safe_wrappers() {
         assert_eq!(wide(same(slotsheet::mycielskian_bound(&rows)), 0), mycielskian);
         let (mut out, mut again) = (vec![FILL; BYTES], vec![FILL; BYTES]);
         assert_eq!(same(slotsheet::write_list(&rows, &mut out)), calls::write_list(&rows, &mut again));
-        for walk in [slotsheet::fewest, slotsheet::plain].iter().zip([calls::fewest, calls::plain]) {
+        let wrapped = [slotsheet::fewest, slotsheet::plain, slotsheet::fewest_by_placing];
+        for walk in wrapped.iter().zip([calls::fewest, calls::plain, calls::fewest_by_placing]) {
             let said = match walk.0(&rows, &mut out[..60], 30) {
                 Ok(walked) => [0, 0, walked.k as u64, walked.nodes, walked.leaves, walked.clique],
                 Err(refused) if refused.why == slotsheet::Refusal::Budget => [6, 0, 0, refused.place, 0, 0],

@@ -44,7 +44,7 @@ pub struct Refused {
 pub struct Walked {
     pub k: usize,
     pub nodes: u64,
-    /// The plain walk's number of complete graphs; 0 for the bounded walk.
+    /// The plain walk's number of complete graphs; else 0.
     pub leaves: u64,
     /// The members of the list's clique, as [`clique_bound`] has them: they say why it can't be fewer than their number, which may be below k.
     pub clique: u64,
@@ -172,6 +172,20 @@ pub fn fewest(rows: &[u64], colours: &mut [u8], budget: u64) -> Result<Walked, R
 pub fn plain(rows: &[u64], colours: &mut [u8], budget: u64) -> Result<Walked, Refused> {
     // SAFETY: as in `validity`.
     walked(unsafe { raw::slotsheet_plain(rows.as_ptr(), rows.len(), colours.as_mut_ptr(), colours.len(), budget) })
+}
+
+/// The same k by a second engine that owes nothing to the first, for testers: a search that never merges and has no bounds. 1 to 5, then 6; nodes
+/// and budget are its own, and its colours may be others than the walk's.
+///
+/// ```
+/// let (rows, mut colours) = ([2, 5, 2], [0; 3]);
+/// let placed = slotsheet::fewest_by_placing(&rows, &mut colours, 1_000_000).unwrap();
+/// assert_eq!((placed.k, placed.nodes, placed.clique), (2, 5, 0b011));
+/// assert_eq!(colours, [0, 1, 0]);
+/// ```
+pub fn fewest_by_placing(rows: &[u64], colours: &mut [u8], budget: u64) -> Result<Walked, Refused> {
+    // SAFETY: as in `validity`.
+    walked(unsafe { raw::slotsheet_fewest_by_placing(rows.as_ptr(), rows.len(), colours.as_mut_ptr(), colours.len(), budget) })
 }
 
 fn read(said: raw::Reading) -> Result<usize, Refused> {
