@@ -78,9 +78,6 @@ enum-told-24 c = search needs
 enum-told-25 : tie.Need-enum-told-25
 enum-told-25 c = search needs
 
-enum-told-26 : tie.Need-enum-told-26
-enum-told-26 c = search needs
-
 returns : tie.Need-returns
 returns c = simp (c .enum-told .given .1)
 
@@ -156,9 +153,6 @@ returns-24 c = simp (c .enum-told24 .given .1)
 returns-25 : tie.Need-returns-25
 returns-25 c = simp (c .enum-told25 .given .1)
 
-returns-26 : tie.Need-returns-26
-returns-26 c = simp (c .enum-told26 .given .1)
-
 pub line-spec : {M : Type 1} → statement M
 line-spec =
     tie.close
@@ -188,7 +182,6 @@ line-spec =
     enum-told-23
     enum-told-24
     enum-told-25
-    enum-told-26
     returns
     returns-2
     returns-3
@@ -213,5 +206,4 @@ line-spec =
     returns-22
     returns-23
     returns-24
-    returns-25
-    returns-26)
+    returns-25)
