@@ -33,7 +33,7 @@ extern "C" {
 #endif
 
 /* tools/bindings writes from here on, from bindings/interface.txt */
-#define SLOTSHEET_VERSION "4.1.0"
+#define SLOTSHEET_VERSION "5.0.0"
 
 #define SLOTSHEET_ENTRIES 64          /* the most entries of a list */
 #define SLOTSHEET_BYTES 65536         /* the most bytes of a text that is read */
@@ -51,7 +51,6 @@ enum slotsheet_refusal {
     SLOTSHEET_ONE_SIDED = 4,    /* row i has bit j, row j lacks bit i: lowest such i */
     SLOTSHEET_SHORT = 5,        /* colour buffer under n bytes */
     SLOTSHEET_BUDGET = 6,       /* the walk has more nodes than the budget: nodes = budget */
-    SLOTSHEET_DEEP = 7,         /* over 64 levels of merging */
     SLOTSHEET_LINE = 10,        /* a word unknown, or an empty line: line and column */
     SLOTSHEET_HEADLESS = 11,    /* an e line before any p line, or no p line at all: line */
     SLOTSHEET_SECOND = 12,      /* a second p line: line */
@@ -155,7 +154,7 @@ struct slotsheet_verdict slotsheet_validity(const uint64_t *rows, size_t rows_le
 struct slotsheet_bound slotsheet_clique_bound(const uint64_t *rows, size_t rows_length);
 struct slotsheet_bound slotsheet_mycielskian_bound(const uint64_t *rows, size_t rows_length);
 
-/* The fewest groups: 1 to 4, 5, 7, 6. Accepted, writes to colours[i] the number of entry i's group, for each of the n entries; colour bytes
+/* The fewest groups: 1 to 4, 5, 6. Accepted, writes to colours[i] the number of entry i's group, for each of the n entries; colour bytes
    from n on stay. `clique` has the members of the list's clique bound, which may be fewer than k: they say why it can't be fewer than their number. */
 struct slotsheet_walk slotsheet_fewest(const uint64_t *rows, size_t rows_length, uint8_t *colours, size_t colours_length, uint64_t budget);
 

@@ -1,7 +1,7 @@
 /* The installed library as a C program meets it.
 
-     face             each refusal but DEEP, which no list can meet, is provoked and has the header's number; slices of length 0 may be NULL; the
-                      sentences stay within their buffer; every call is made in a thread of SLOTSHEET_STACK_BYTES; prints "N checks"
+     face             each refusal is provoked and has the header's number; slices of length 0 may be NULL; the sentences stay within
+                      their buffer; every call is made in a thread of SLOTSHEET_STACK_BYTES; prints "N checks"
      face examples    of each text of standard input, which is tests/examples.txt, what is stored there is what reading, checking and printing say;
                       prints "N checks"
      face sentences   prints every refusal's name and sentence, as `tests/faces.py sentences` does */

@@ -8,7 +8,6 @@ static const struct { size_t number; const char *name, *sentence; } table[] = {
     {4, "ONE-SIDED", "entry {next} is marked as clashing with an entry that is not marked as clashing with it (row {place})"},
     {5, "SHORT", "there is less room for group numbers than the list has entries"},
     {6, "BUDGET", "the search for the fewest sittings was given up after {place} steps, as many as it was allowed"},
-    {7, "DEEP", "the search went more than 64 levels deep"},
     {10, "LINE", "line {place}, column {column}: this line is empty, or its word is none of \"c\", \"p edge\" and \"e\""},
     {11, "HEADLESS", "line {place}: no line \"p edge N M\" has come before this clash, or before the list's end"},
     {12, "SECOND", "line {place}: this is a second line \"p edge N M\""},

@@ -54,7 +54,7 @@ __all__ = [
 ]
 
 # tools/bindings writes from here on, from bindings/interface.txt
-VERSION = "4.1.0"
+VERSION = "5.0.0"
 
 ENTRIES = 64  # the most entries of a list
 BYTES = 65_536  # the most bytes of a text that is read
@@ -75,7 +75,6 @@ _TABLE = {
     4: ("ONE-SIDED", "row", "entry {next} is marked as clashing with an entry that is not marked as clashing with it (row {place})"),
     5: ("SHORT", None, "there is less room for group numbers than the list has entries"),
     6: ("BUDGET", "nodes", "the search for the fewest sittings was given up after {place} steps, as many as it was allowed"),
-    7: ("DEEP", None, "the search went more than 64 levels deep"),
     10: ("LINE", "spot", "line {place}, column {column}: this line is empty, or its word is none of \"c\", \"p edge\" and \"e\""),
     11: ("HEADLESS", "line", "line {place}: no line \"p edge N M\" has come before this clash, or before the list's end"),
     12: ("SECOND", "line", "line {place}: this is a second line \"p edge N M\""),

@@ -13,8 +13,8 @@ from slotsheet import Refused
 FIVE = [(0, 1), (1, 2), (2, 3), (3, 4), (4, 0)]
 LIST = "p edge 3 1\ne 1 2\n"
 
-# A call for each refusal, what is returned beside it, and the start of its sentence. DEEP is none that a list can meet; the module always lends
-# enough room, so SHORT, ROOM and FULL are met by no call of it.
+# A call for each refusal, what is returned beside it, and the start of its sentence. The module always lends enough room, so SHORT, ROOM
+# and FULL are met by no call of it.
 REFUSED = {
     1: (lambda: slotsheet.validity([0] * 65), {}),
     2: (lambda: slotsheet.clique_bound([0, 8]), {"row": 1}),
@@ -43,7 +43,7 @@ REFUSED = {
     37: (lambda: slotsheet.check_sheet(LIST, "groups 0\nx"), {"line": 2, "text": "sheet", "shown": b"x"}),
     38: (lambda: slotsheet.write_sheet([0, 2]), {"index": 1}),
 }
-UNMET = {5, 7, 17, 19}
+UNMET = {5, 17, 19}
 
 # The functions that read a clash text, by the two readings.
 PLAIN = (slotsheet.read_list, slotsheet.check_sheet, slotsheet.answer)

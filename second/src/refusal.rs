@@ -9,7 +9,6 @@ pub enum Refusal {
     OneSided = 4,
     Short = 5,
     Budget = 6,
-    Deep = 7,
     Line = 10,
     Headless = 11,
     Second = 12,

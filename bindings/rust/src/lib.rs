@@ -162,7 +162,7 @@ fn walked(said: raw::Walk) -> Result<Walked, Refused> {
     told(said.refusal, place, Walked { k: said.k, nodes: said.nodes, leaves: said.leaves, clique: said.clique })
 }
 
-/// The fewest groups: 1 to 4, 5, 7, 6. Writes the group number of each of the n entries.
+/// The fewest groups: 1 to 4, 5, 6. Writes the group number of each of the n entries.
 pub fn fewest(rows: &[u64], colours: &mut [u8], budget: u64) -> Result<Walked, Refused> {
     // SAFETY: as in `validity`.
     walked(unsafe { raw::slotsheet_fewest(rows.as_ptr(), rows.len(), colours.as_mut_ptr(), colours.len(), budget) })

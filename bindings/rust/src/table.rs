@@ -3,7 +3,7 @@
 use crate::refusal::Beside;
 
 /// The version of the interface.
-pub const VERSION: &str = "4.1.0";
+pub const VERSION: &str = "5.0.0";
 /// The most entries of a list.
 pub const ENTRIES: usize = 64;
 /// The most bytes of a text that is read.
@@ -32,8 +32,6 @@ pub enum Refusal {
     Short = 5,
     /// The walk has more nodes than the budget: nodes = budget.
     Budget = 6,
-    /// Over 64 levels of merging.
-    Deep = 7,
     /// A word unknown, or an empty line.
     Line = 10,
     /// An e line before any p line, or no p line at all.
@@ -90,14 +88,13 @@ pub(crate) struct Row {
 }
 
 #[rustfmt::skip]
-pub(crate) const TABLE: [Row; 30] = [
+pub(crate) const TABLE: [Row; 29] = [
     Row { refusal: Refusal::Many, name: "MANY", beside: Beside::Nothing, sentence: "there are more than 64 entries" },
     Row { refusal: Refusal::Stray, name: "STRAY", beside: Beside::Row, sentence: "entry {next} is marked as clashing with an entry that the list does not have (row {place})" },
     Row { refusal: Refusal::Itself, name: "SELF", beside: Beside::Row, sentence: "entry {next} is marked as clashing with itself (row {place})" },
     Row { refusal: Refusal::OneSided, name: "ONE-SIDED", beside: Beside::Row, sentence: "entry {next} is marked as clashing with an entry that is not marked as clashing with it (row {place})" },
     Row { refusal: Refusal::Short, name: "SHORT", beside: Beside::Nothing, sentence: "there is less room for group numbers than the list has entries" },
     Row { refusal: Refusal::Budget, name: "BUDGET", beside: Beside::Nodes, sentence: "the search for the fewest sittings was given up after {place} steps, as many as it was allowed" },
-    Row { refusal: Refusal::Deep, name: "DEEP", beside: Beside::Nothing, sentence: "the search went more than 64 levels deep" },
     Row { refusal: Refusal::Line, name: "LINE", beside: Beside::Spot, sentence: "line {place}, column {column}: this line is empty, or its word is none of \"c\", \"p edge\" and \"e\"" },
     Row { refusal: Refusal::Headless, name: "HEADLESS", beside: Beside::Line, sentence: "line {place}: no line \"p edge N M\" has come before this clash, or before the list's end" },
     Row { refusal: Refusal::Second, name: "SECOND", beside: Beside::Line, sentence: "line {place}: this is a second line \"p edge N M\"" },

@@ -247,13 +247,13 @@ module _ (rows before : List ℕ) where
 
   -- a walk over the rows of a list that is not accepted is refused for effort
   pub rows-refused : Open rows (length before) → (a : Answer) (after : List ℕ) → Promised (boundedWalk mycielskian) rows before budget a after
-      → OneOf (1 ∷ 2 ∷ 3 ∷ 4 ∷ 5 ∷ 6 ∷ 7 ∷ []) (tagOf the-type a) → rowsText rows ≡ spent
+      → OneOf (1 ∷ 2 ∷ 3 ∷ 4 ∷ 5 ∷ 6 ∷ []) (tagOf the-type a) → rowsText rows ≡ spent
   rows-refused opened a after p tag = go (decLt budget (w .nodes))
     where
       go : Dec (budget < w .nodes) → rowsText rows ≡ spent
       go (yes h) = rows-spent h
       go (no h) =
           absurd
-          (miss (1 ∷ 2 ∷ 3 ∷ 4 ∷ 5 ∷ 6 ∷ 7 ∷ []) 0 tt
-          (subst (λ (x : Answer). OneOf (1 ∷ 2 ∷ 3 ∷ 4 ∷ 5 ∷ 6 ∷ 7 ∷ []) (tagOf the-type x))
+          (miss (1 ∷ 2 ∷ 3 ∷ 4 ∷ 5 ∷ 6 ∷ []) 0 tt
+          (subst (λ (x : Answer). OneOf (1 ∷ 2 ∷ 3 ∷ 4 ∷ 5 ∷ 6 ∷ []) (tagOf the-type x))
           (accepted-within 64 (boundedWalk mycielskian) rows before budget a after p opened (omega arith)) tag))

@@ -9,7 +9,7 @@ use native.Mathlib.Nat.{le-of-eq}
 use native.Mathlib.Decide.{ℕ-discrete}
 use native.Mathlib.Omega.{arith}
 use borrow.Author.Tests.{le-ltb}
-use lib.Dec.{T, eqb, ltb, eqb→eq}
+use lib.Dec.{T, eqb, eqb→eq}
 use lib.ListN.{length, take}
 use Rattle.sets.specs.Lists.{In, every, upto, table as listOf}
 use Rattle.sets.proofs.TestLaws.{and-l, and-r, eqb-of, T→true, T→false}
@@ -21,11 +21,11 @@ use Rattle.graphs.specs.Graph.{Graph}
 use Rattle.cliques.specs.Clique.{clique}
 use Rattle.mycielski.specs.Rounds as rounds
 use Rattle.bounds.specs.Names.{mycielskian, clique-set-is, mycielskian-is}
-use Rattle.zykov.specs.Tree.{levels, grown, below, zykov}
+use Rattle.zykov.specs.Tree.{grown, below}
 use Rattle.zykov.specs.Walk.{State, walk}
 use Rattle.walk.specs.Promise.{numbers, Promised, refused, walked, answerUpTo}
 use Rattle.walk.specs.declared.Answer.{Answer}
-use Rattle.walk.specs.declared.Answer.the-variants.{Accepted, Many, Stray, Itself, OneSided, Short, Budget, Deep}
+use Rattle.walk.specs.declared.Answer.the-variants.{Accepted, Many, Stray, Itself, OneSided, Short, Budget}
 use Rattle.walk.proofs.PromiseLaws.{promised-answer}
 use Rattle.figures.specs.Table.{Figures, figuresOf, Row, table, cliques, walkOf, same, sameList, passes, picks, Confirmed, Shows}
 
@@ -66,7 +66,7 @@ module _ (w : ℕ → (ℕ → ℕ → Bool) → State) (rows before other : Lis
   answer-any b c =
       ap
       (λ t. refused (judge rows)
-      (cond t Short (cond (ltb 64 (levels (zykov (length rows) (matrix rows)))) Deep (walked 64 w rows before budget (w (length rows) (matrix rows))))))
+      (cond t Short (walked 64 w rows before budget (w (length rows) (matrix rows)))))
       (le-ltb (length before) (length rows) b ∙ sym (le-ltb (length other) (length rows) c))
 
 -- where the number is 0 the answer is an accepted one
@@ -79,7 +79,6 @@ colours-of w rows before after budget (Itself i) e p = absurd (omega arith)
 colours-of w rows before after budget (OneSided i) e p = absurd (omega arith)
 colours-of w rows before after budget Short e p = absurd (omega arith)
 colours-of w rows before after budget (Budget m) e p = absurd (omega arith)
-colours-of w rows before after budget Deep e p = absurd (omega arith)
 
 module _ (r : Row) (t : T (passes r)) where
   abbrev n : ℕ

@@ -10,12 +10,12 @@ use native.Mathlib.Omega.{arith}
 use lib.Dec.{T, eqb, eqb→eq}
 use Rattle.refusals.specs.Table.{Beside, nothing, aRow, theNodes, aLine, aSpot, anIndex, entry, numberOf, accepted, with, told, toldAt}
 use Rattle.refusals.specs.declared.Refusal.{Refusal}
-use Rattle.refusals.specs.declared.Refusal.the-variants.{Many, Stray, Itself, OneSided, Short, Budget, Deep, Line, Headless, Second, Size, Vertex, Loop, Count, Room, Long, Full, Repeat, Digit, Space, Unended, SheetLine, Member, Order, Twice, Clash, Ends, Missing, Extra, Colours}
+use Rattle.refusals.specs.declared.Refusal.the-variants.{Many, Stray, Itself, OneSided, Short, Budget, Line, Headless, Second, Size, Vertex, Loop, Count, Room, Long, Full, Repeat, Digit, Space, Unended, SheetLine, Member, Order, Twice, Clash, Ends, Missing, Extra, Colours}
 
 -- every refusal, in the table's order
 abbrev pub all : List Refusal
 all =
-    Many ∷ Stray ∷ Itself ∷ OneSided ∷ Short ∷ Budget ∷ Deep ∷ Line ∷ Headless ∷ Second ∷ Size ∷ Vertex ∷ Loop ∷ Count ∷ Room ∷ Long ∷ Full
+    Many ∷ Stray ∷ Itself ∷ OneSided ∷ Short ∷ Budget ∷ Line ∷ Headless ∷ Second ∷ Size ∷ Vertex ∷ Loop ∷ Count ∷ Room ∷ Long ∷ Full
     ∷ Repeat ∷ Digit ∷ Space ∷ Unended ∷ SheetLine ∷ Member ∷ Order ∷ Twice ∷ Clash ∷ Ends ∷ Missing ∷ Extra ∷ Colours ∷ []
 
 -- who of these has the number n
@@ -31,7 +31,6 @@ back Itself = refl
 back OneSided = refl
 back Short = refl
 back Budget = refl
-back Deep = refl
 back Line = refl
 back Headless = refl
 back Second = refl

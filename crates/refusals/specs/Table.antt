@@ -14,7 +14,7 @@
 use mathlib.Core.Bool.{Bool, true, false}
 use Prim.Native.Nat.{ℕ}
 use Rattle.refusals.specs.declared.Refusal.{Refusal}
-use Rattle.refusals.specs.declared.Refusal.the-variants.{Many, Stray, Itself, OneSided, Short, Budget, Deep, Line, Headless, Second, Size, Vertex, Loop, Count, Room, Long, Full, Repeat, Digit, Space, Unended, SheetLine, Member, Order, Twice, Clash, Ends, Missing, Extra, Colours}
+use Rattle.refusals.specs.declared.Refusal.the-variants.{Many, Stray, Itself, OneSided, Short, Budget, Line, Headless, Second, Size, Vertex, Loop, Count, Room, Long, Full, Repeat, Digit, Space, Unended, SheetLine, Member, Order, Twice, Clash, Ends, Missing, Extra, Colours}
 
 pub data Beside : Type 0 where
   nothing : Beside
@@ -39,7 +39,6 @@ entry Itself = row 3 aRow
 entry OneSided = row 4 aRow
 entry Short = row 5 nothing
 entry Budget = row 6 theNodes
-entry Deep = row 7 nothing
 entry Line = row 10 aSpot
 entry Headless = row 11 aLine
 entry Second = row 12 aLine

@@ -159,7 +159,6 @@ pub fn of_walk(a: Answer) -> WalkNumbers
         Answer::OneSided(row) => refused_walk(Refusal::OneSided, row, 0),
         Answer::Short => refused_walk(Refusal::Short, 0, 0),
         Answer::Budget(nodes) => refused_walk(Refusal::Budget, 0, nodes),
-        Answer::Deep => refused_walk(Refusal::Deep, 0, 0),
     }
 }
 

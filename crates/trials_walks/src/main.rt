@@ -491,7 +491,6 @@ fn tell(a: Answer) {
             trials::put_refusal(Refusal::Budget);
             say(b" nodes ", nodes);
         }
-        Answer::Deep => refused(Refusal::Deep, 0),
     }
     trials::put(b"\n");
 }

@@ -23,7 +23,6 @@ pub enum Answer {
     OneSided(usize),
     Short,
     Budget(u64),
-    Deep,
 }
 
 // May the walk start? If not, why.
@@ -32,7 +31,7 @@ enum Gate {
     Shut(Answer),
 }
 
-// Refusals 1 to 5. Refusal 7 comes next in the order and never arises: there are no more levels of merging than entries (`never-deep`).
+// Refusals 1 to 5.
 fn admitted(rows: &[u64], room: usize) -> Gate
     ensures { λ r. ⌜ Gated (now (rows .entry)) room r ⌝ }
 {

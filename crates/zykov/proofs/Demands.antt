@@ -4,12 +4,12 @@
 --   demand 2: the best division of either walk is a clash-free division, numbered by first use, and its number of groups is the chromatic number
 --   demand 3: the Zykov tree has P complete graphs and 2 P - 1 nodes, P being the number of clash-free divisions; the plain walk enters them all,
 --             the bounded walk no more; and a walk that stops at its budget is the whole walk where the budget is enough, and refused where not
---   and there are never more than n levels of merging
+--   and no way down the tree has more than n - 1 levels of merging, none where there is no entry, at any n: no list is too deep for a walk
 --
 -- Assumes nothing but that the bound is one (`IsBound`), which the crate of the bounds proves of its own.
 use mathlib.Core.Path.{_≡_, refl}
 use mathlib.Core.Bool.{Bool}
-use Prim.Native.Nat.{ℕ, suc, _*_, _≤_}
+use Prim.Native.Nat.{ℕ, suc, _*_, _-_, _≤_}
 use native.Mathlib.Omega.{arith}
 use lib.Dec.{T}
 use Rattle.clashes.specs.Matrix.{Valid}
@@ -34,7 +34,8 @@ module _ (n : ℕ) (clash : ℕ → ℕ → Bool) (valid : Valid n clash) where
   pub nodes-are : suc (nodes (zykov n clash)) ≡ 2 * freeDivisions n clash
   nodes-are = tree.nodes-are n clash valid
 
-  pub levels-few : levels (zykov n clash) ≤ n
+  -- "each merging leaves one vertex fewer, and separations stay on their level"
+  pub levels-few : levels (zykov n clash) ≤ n - 1
   levels-few = tree.levels-few n clash valid
 
   -- ---- the bounded walk, over any bound

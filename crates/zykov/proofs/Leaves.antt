@@ -1,11 +1,11 @@
 -- Demand 3's numbers: the leaves of the Zykov tree are the clash-free divisions, P in number; its nodes are 2 P - 1; and it has fewer levels of
--- merging than vertices, so never more than n. Assumes nothing.
+-- merging than vertices, so at most n - 1. Assumes nothing.
 use mathlib.Core.Path.{_≡_, refl, sym, ap, ap₂, _∙_}
 use mathlib.Core.Logic.{_⊎_, inl, inr}
 use mathlib.Core.Bool.{Bool}
 use mathlib.Core.List.{List, [], _∷_}
 use mathlib.Core.Option.{none}
-use Prim.Native.Nat.{ℕ, suc, _+_, _*_, _≤_, max}
+use Prim.Native.Nat.{ℕ, suc, _+_, _*_, _-_, _≤_, max}
 use native.Mathlib.Decide.{ℕ-discrete}
 use native.Mathlib.Omega.{arith}
 use lib.Dec.{T}
@@ -82,7 +82,7 @@ module _ (n : ℕ) where
   unfolding upto
   vertices-le g = omega (arith, members-count (live n g) n, count-length (live n g) (upto n), length-table (λ i. i) n)
 
-  pub levels-le : (g : Graph) → Good n g → levels (below n g) ≤ n
+  pub levels-le : (g : Graph) → Good n g → levels (below n g) ≤ n - 1
   levels-le g k = omega (arith, below-levels g k, vertices-le g)
 
   -- ---- the tree of a list
@@ -110,5 +110,5 @@ module _ (n : ℕ) where
       pub nodes-are : suc (nodes (zykov n clash)) ≡ 2 * freeDivisions n clash
       nodes-are = nodes-leaves (zykov n clash) ∙ ap (λ k. 2 * k) leaves-are
 
-      pub levels-few : levels (zykov n clash) ≤ n
+      pub levels-few : levels (zykov n clash) ≤ n - 1
       levels-few = levels-le (graph n clash) (good-graph n clash valid)

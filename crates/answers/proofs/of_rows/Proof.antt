@@ -48,7 +48,7 @@ slice-aggregate-compose c = sym (accepted c .division .long)
 compose-requires : tie.Need-compose-requires
 compose-requires c κs =
     let p = accepted c in
-    (omega (arith, p .division .long, p .shallow .opened .sound .apart .inside .few), p .division .numbered, sym (p .many))
+    (omega (arith, p .division .long, p .opened .sound .apart .inside .few), p .division .numbered, sym (p .many))
 
 returns : tie.Need-returns
 returns c =

@@ -90,9 +90,6 @@ enum-told-28 c = search needs
 enum-told-29 : tie.Need-enum-told-29
 enum-told-29 c = search needs
 
-enum-told-30 : tie.Need-enum-told-30
-enum-told-30 c = search needs
-
 returns : tie.Need-returns
 returns c = simp (c .enum-told .given .1)
 
@@ -180,9 +177,6 @@ returns-28 c = simp (c .enum-told28 .given .1)
 returns-29 : tie.Need-returns-29
 returns-29 c = simp (c .enum-told29 .given .1)
 
-returns-30 : tie.Need-returns-30
-returns-30 c = simp (c .enum-told30 .given .1)
-
 pub number-spec : {M : Type 1} → statement M
 number-spec =
     tie.close
@@ -216,7 +210,6 @@ number-spec =
     enum-told-27
     enum-told-28
     enum-told-29
-    enum-told-30
     returns
     returns-2
     returns-3
@@ -245,5 +238,4 @@ number-spec =
     returns-26
     returns-27
     returns-28
-    returns-29
-    returns-30)
+    returns-29)

@@ -42,12 +42,6 @@ enum-known-a-5 c = search needs
 refused-walk-requires-6 : tie.Need-refused-walk-requires-6
 refused-walk-requires-6 c κs = search needs
 
-enum-told-3 : tie.Need-enum-told-3
-enum-told-3 c = search needs
-
-refused-walk-requires-7 : tie.Need-refused-walk-requires-7
-refused-walk-requires-7 c κs = search needs
-
 returns : tie.Need-returns
 returns c = simp (c .before .a .given .1)
 
@@ -69,9 +63,6 @@ returns-6 c = simp (c .refused-walk5 .ensures, c .before .enum-told2 .given .1)
 returns-7 : tie.Need-returns-7
 returns-7 c = simp (c .refused-walk6 .ensures, c .before .before .a5 .given .1)
 
-returns-8 : tie.Need-returns-8
-returns-8 c = simp (c .refused-walk7 .ensures, c .before .enum-told3 .given .1)
-
 pub of-walk-spec : {M : Type 1} → statement M
 of-walk-spec =
     tie.close
@@ -89,13 +80,10 @@ of-walk-spec =
     refused-walk-requires-5
     enum-known-a-5
     refused-walk-requires-6
-    enum-told-3
-    refused-walk-requires-7
     returns
     returns-2
     returns-3
     returns-4
     returns-5
     returns-6
-    returns-7
-    returns-8)
+    returns-7)
