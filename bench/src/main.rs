@@ -4,7 +4,8 @@
 //!
 //! TESTS is the folder with `graphs` and `walks`. All walks are run in turns, for processor time, with slotsheet's budget; their answers are
 //! compared, and a difference ends the run. A word after TESTS, as in `bench TESTS queen`, leaves only the lists whose names have it.
-//! With the feature `proved` the proved library stands beside the hand-written walks, called through its C interface.
+//! With the feature `proved` the proved library stands beside the hand-written walks, called through its C interface; with `pair_choice` its pair
+//! choice is called alone too.
 //!
 //!     bench TESTS once LIST WALK BUDGET
 //!
@@ -208,6 +209,67 @@ fn placings(tests: &Path, word: &str) -> bool {
     true
 }
 
+/// The pair choice alone, per call, over graphs of the walk's first nodes, and its part of the proved walk. False where choices differ.
+#[cfg(feature = "pair_choice")]
+fn choices(tests: &Path, word: &str) -> bool {
+    const NODES: u64 = 20_000;
+    const GRAPHS: usize = 1_000;
+    println!("\nThe pair choice alone: nanoseconds per call, over at most {GRAPHS} graphs, spread over the first {NODES} nodes; beside it nanoseconds");
+    println!("of a node of the proved walk, all in all, how many of its nodes choose a pair, and the share of the choice in them");
+    let head = ["list", "entries", "density %", "plain", "tuned", "proved", "plain/proved", "tuned/proved", "node", "choosing", "share"];
+    row(&head.map(String::from));
+    let lists = [
+        "random64_6",
+        "random40_10",
+        "3-Insertions_3",
+        "random40_30",
+        "queen8_8",
+        "random64_50",
+        "random40_70",
+        "random64_70",
+        "random64_90",
+    ];
+    for name in lists.iter().filter(|name| name.contains(word)) {
+        let rows = named(tests, name);
+        let mut colours = vec![0; rows.len()];
+        let nodes = proved::fewest(&rows, &mut colours, NODES).map_or(NODES, |walked| walked.nodes);
+        let mut met = tuned::choices(&rows, NODES);
+        let choosing = met.len() as f64 / nodes as f64;
+        let step = met.len().div_ceil(GRAPHS);
+        met = met.into_iter().step_by(step).collect();
+        let graphs: Vec<_> = met.iter().map(|met| described::Graph::held(met.live, &met.rows)).collect();
+        let same = |(met, graph): (&tuned::Choice, &described::Graph)| {
+            graph.pair() == met.pair() && met.pair() == proved::pair(met.live, &met.rows)
+        };
+        if !met.iter().zip(&graphs).all(same) {
+            println!("{name}: the choices differ");
+            return false;
+        }
+        let taken = seconds(
+            &mut [
+                &mut || graphs.iter().for_each(|graph| discard(graph.pair())),
+                &mut || met.iter().for_each(|met| discard(met.pair())),
+                &mut || met.iter().for_each(|met| discard(proved::pair(met.live, &met.rows))),
+                &mut || discard(proved::fewest(&rows, &mut colours, NODES)),
+            ],
+            3.0,
+        );
+        let [plain, tuned, proved] = [0, 1, 2].map(|i| taken[i] * 1e9 / met.len() as f64);
+        let node = taken[3] * 1e9 / nodes as f64;
+        let mut cells = vec![name.to_string(), rows.len().to_string(), density(&rows).to_string()];
+        cells.extend([plain, tuned, proved].map(|taken| format!("{taken:.0}")));
+        cells.extend([plain / proved, tuned / proved].map(|ratio| format!("{ratio:.2}")));
+        cells.extend([format!("{node:.0}"), format!("{choosing:.2}"), format!("{:.2}", choosing * proved / node)]);
+        row(&cells);
+    }
+    true
+}
+
+#[cfg(not(feature = "pair_choice"))]
+fn choices(_: &Path, _: &str) -> bool {
+    true
+}
+
 /// Both bounds of a list's first node, per call. False where they differ.
 fn bounds(tests: &Path, word: &str) -> bool {
     println!("\nBoth bounds of a list: nanoseconds, with the test of the matrix; proved: two calls, each with its own clique");
@@ -317,7 +379,7 @@ fn main() -> ExitCode {
             return ExitCode::FAILURE;
         }
     };
-    if walks(&tests, word) && placings(&tests, word) && bounds(&tests, word) && texts(&tests) {
+    if walks(&tests, word) && placings(&tests, word) && choices(&tests, word) && bounds(&tests, word) && texts(&tests) {
         ExitCode::SUCCESS
     } else {
         ExitCode::FAILURE
