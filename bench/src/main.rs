@@ -85,6 +85,13 @@ const LISTS: [&str; 32] = [
     "random64_50", "random64_70", "random64_90", "complete64",
 ];
 
+/// Sparse, middle and dense lists with long walks: bench/functions has the same.
+#[cfg(feature = "pair_choice")]
+#[rustfmt::skip]
+const SPREAD: [&str; 9] = [
+    "random64_6", "random40_10", "3-Insertions_3", "random40_30", "queen8_8", "random64_50", "random40_70", "random64_70", "random64_90",
+];
+
 /// A list of the tests by its name.
 fn named(tests: &Path, name: &str) -> Vec<u64> {
     let path = ["graphs", "walks"].iter().map(|place| tests.join(place).join(format!("{name}.col"))).find(|path| path.exists());
@@ -185,13 +192,14 @@ fn walks(tests: &Path, word: &str) -> bool {
     true
 }
 
-/// Nodes per second of the searches by placing, and of the last of the walks beside them. False where answers differ.
+/// Nodes per second of the searches by placing, and of the last of the walks beside them, all in turns. False where answers differ.
 fn placings(tests: &Path, word: &str) -> bool {
-    println!("\nSearches by placing: thousand nodes per second of processor time, budget {BUDGET}; a walk's own nodes beside them");
+    println!("\nSearches by placing: thousand nodes per second of processor time, budget {BUDGET}; a walk beside them, by its own nodes; and milliseconds");
     let walk = &WALKS[WALKS.len() - 1..];
-    let mut head: Vec<String> = ["list", "k", "nodes"].map(String::from).to_vec();
-    head.extend(PLACINGS.iter().map(|(name, _)| name.to_string()));
-    head.extend(["walk's k".into(), "its nodes".into(), walk[0].0.to_string()]);
+    let all = [PLACINGS, walk].concat();
+    let mut head: Vec<String> = ["list", "k", "nodes", "walk's k", "its nodes"].map(String::from).to_vec();
+    head.extend(all.iter().map(|(name, _)| name.to_string()));
+    head.extend(all.iter().map(|(name, _)| format!("{name} ms")));
     row(&head);
     for name in LISTS.iter().filter(|name| name.contains(word)) {
         let rows = named(tests, name);
@@ -199,11 +207,11 @@ fn placings(tests: &Path, word: &str) -> bool {
             println!("{name}: the searches by placing differ");
             return false;
         };
-        let rate = |nodes: u64| move |taken: f64| format!("{:.0}", nodes as f64 / taken / 1e3);
-        let mut cells = vec![name.to_string(), k, nodes.to_string()];
-        cells.extend(walked(PLACINGS, &rows).into_iter().map(rate(nodes)));
-        cells.extend([walk_k, walk_nodes.to_string()]);
-        cells.extend(walked(walk, &rows).into_iter().map(rate(walk_nodes)));
+        let taken = walked(&all, &rows);
+        let mut cells = vec![name.to_string(), k, nodes.to_string(), walk_k, walk_nodes.to_string()];
+        let entered = |i: usize| if i < PLACINGS.len() { nodes } else { walk_nodes };
+        cells.extend(taken.iter().enumerate().map(|(i, taken)| format!("{:.0}", entered(i) as f64 / taken / 1e3)));
+        cells.extend(taken.iter().map(|taken| format!("{:.3}", taken * 1e3)));
         row(&cells);
     }
     true
@@ -218,25 +226,14 @@ fn choices(tests: &Path, word: &str) -> bool {
     println!("of a node of the proved walk, all in all, how many of its nodes choose a pair, and the share of the choice in them");
     let head = ["list", "entries", "density %", "plain", "tuned", "proved", "plain/proved", "tuned/proved", "node", "choosing", "share"];
     row(&head.map(String::from));
-    let lists = [
-        "random64_6",
-        "random40_10",
-        "3-Insertions_3",
-        "random40_30",
-        "queen8_8",
-        "random64_50",
-        "random40_70",
-        "random64_70",
-        "random64_90",
-    ];
-    for name in lists.iter().filter(|name| name.contains(word)) {
+    for name in SPREAD.iter().filter(|name| name.contains(word)) {
         let rows = named(tests, name);
         let mut colours = vec![0; rows.len()];
         let nodes = proved::fewest(&rows, &mut colours, NODES).map_or(NODES, |walked| walked.nodes);
-        let mut met = tuned::choices(&rows, NODES);
-        let choosing = met.len() as f64 / nodes as f64;
-        let step = met.len().div_ceil(GRAPHS);
-        met = met.into_iter().step_by(step).collect();
+        let all = tuned::choices(&rows, NODES);
+        let choosing = all.len() as f64 / nodes as f64;
+        let step = all.len().div_ceil(GRAPHS).max(1);
+        let met: Vec<_> = all.into_iter().step_by(step).collect();
         let graphs: Vec<_> = met.iter().map(|met| described::Graph::held(met.live, &met.rows)).collect();
         let same = |(met, graph): (&tuned::Choice, &described::Graph)| {
             graph.pair() == met.pair() && met.pair() == proved::pair(met.live, &met.rows)
