@@ -6,7 +6,7 @@ use second::{Refusal, Refused};
 
 /// A graph of live vertices, each standing for a group and named by its smallest member.
 #[derive(Clone, Copy)]
-struct Graph {
+pub struct Graph {
     live: u64,
     /// Neighbours of a live vertex, live ones only.
     rows: [u64; 64],
@@ -22,6 +22,11 @@ impl Graph {
             graph.group[i] = bit(i);
         }
         graph
+    }
+
+    /// Of these rows, read through the live set, and with no groups: for a choice of a pair alone.
+    pub fn held(live: u64, rows: &[u64; 64]) -> Graph {
+        Graph { live, rows: rows.map(|row| row & live), group: [0; 64] }
     }
 
     /// "v leaves, the row of u is the two rows joined, neighbours of v become neighbours of u"
@@ -43,7 +48,7 @@ impl Graph {
 
     /// "among non-adjacent pairs u < v take the one with most common neighbours, then smallest u, then smallest v"; none where the graph is
     /// complete.
-    fn pair(&self) -> Option<(usize, usize)> {
+    pub fn pair(&self) -> Option<(usize, usize)> {
         let mut chosen = None;
         let mut most = 0;
         for u in Members(self.live) {

@@ -4,7 +4,8 @@
 //!
 //! TESTS is the folder with `graphs` and `walks`. All walks are run in turns, for processor time, with slotsheet's budget; their answers are
 //! compared, and a difference ends the run. A word after TESTS, as in `bench TESTS queen`, leaves only the lists whose names have it.
-//! With the feature `proved` the proved library stands beside the hand-written walks, called through its C interface.
+//! With the feature `proved` the proved library stands beside the hand-written walks, called through its C interface; with `pair_choice` its pair
+//! choice is called alone too.
 //!
 //!     bench TESTS once LIST WALK BUDGET
 //!
@@ -82,6 +83,13 @@ const LISTS: [&str; 32] = [
     "hamming6-4", "random20_10", "random20_50", "random20_90", "random30_10", "random30_30", "random30_50", "random30_70", "random30_90",
     "random40_10", "random40_30", "random40_50", "random40_70", "random40_90", "random50_30", "random50_70", "random64_6", "random64_30",
     "random64_50", "random64_70", "random64_90", "complete64",
+];
+
+/// Sparse, middle and dense lists with long walks: bench/functions has the same.
+#[cfg(feature = "pair_choice")]
+#[rustfmt::skip]
+const SPREAD: [&str; 9] = [
+    "random64_6", "random40_10", "3-Insertions_3", "random40_30", "queen8_8", "random64_50", "random40_70", "random64_70", "random64_90",
 ];
 
 /// A list of the tests by its name.
@@ -184,13 +192,14 @@ fn walks(tests: &Path, word: &str) -> bool {
     true
 }
 
-/// Nodes per second of the searches by placing, and of the last of the walks beside them. False where answers differ.
+/// Nodes per second of the searches by placing, and of the last of the walks beside them, all in turns. False where answers differ.
 fn placings(tests: &Path, word: &str) -> bool {
-    println!("\nSearches by placing: thousand nodes per second of processor time, budget {BUDGET}; a walk's own nodes beside them");
+    println!("\nSearches by placing: thousand nodes per second of processor time, budget {BUDGET}; a walk beside them, by its own nodes; and milliseconds");
     let walk = &WALKS[WALKS.len() - 1..];
-    let mut head: Vec<String> = ["list", "k", "nodes"].map(String::from).to_vec();
-    head.extend(PLACINGS.iter().map(|(name, _)| name.to_string()));
-    head.extend(["walk's k".into(), "its nodes".into(), walk[0].0.to_string()]);
+    let all = [PLACINGS, walk].concat();
+    let mut head: Vec<String> = ["list", "k", "nodes", "walk's k", "its nodes"].map(String::from).to_vec();
+    head.extend(all.iter().map(|(name, _)| name.to_string()));
+    head.extend(all.iter().map(|(name, _)| format!("{name} ms")));
     row(&head);
     for name in LISTS.iter().filter(|name| name.contains(word)) {
         let rows = named(tests, name);
@@ -198,13 +207,63 @@ fn placings(tests: &Path, word: &str) -> bool {
             println!("{name}: the searches by placing differ");
             return false;
         };
-        let rate = |nodes: u64| move |taken: f64| format!("{:.0}", nodes as f64 / taken / 1e3);
-        let mut cells = vec![name.to_string(), k, nodes.to_string()];
-        cells.extend(walked(PLACINGS, &rows).into_iter().map(rate(nodes)));
-        cells.extend([walk_k, walk_nodes.to_string()]);
-        cells.extend(walked(walk, &rows).into_iter().map(rate(walk_nodes)));
+        let taken = walked(&all, &rows);
+        let mut cells = vec![name.to_string(), k, nodes.to_string(), walk_k, walk_nodes.to_string()];
+        let entered = |i: usize| if i < PLACINGS.len() { nodes } else { walk_nodes };
+        cells.extend(taken.iter().enumerate().map(|(i, taken)| format!("{:.0}", entered(i) as f64 / taken / 1e3)));
+        cells.extend(taken.iter().map(|taken| format!("{:.3}", taken * 1e3)));
         row(&cells);
     }
+    true
+}
+
+/// The pair choice alone, per call, over graphs of the walk's first nodes, and its part of the proved walk. False where choices differ.
+#[cfg(feature = "pair_choice")]
+fn choices(tests: &Path, word: &str) -> bool {
+    const NODES: u64 = 20_000;
+    const GRAPHS: usize = 1_000;
+    println!("\nThe pair choice alone: nanoseconds per call, over at most {GRAPHS} graphs, spread over the first {NODES} nodes; beside it nanoseconds");
+    println!("of a node of the proved walk, all in all, how many of its nodes choose a pair, and the share of the choice in them");
+    let head = ["list", "entries", "density %", "plain", "tuned", "proved", "plain/proved", "tuned/proved", "node", "choosing", "share"];
+    row(&head.map(String::from));
+    for name in SPREAD.iter().filter(|name| name.contains(word)) {
+        let rows = named(tests, name);
+        let mut colours = vec![0; rows.len()];
+        let nodes = proved::fewest(&rows, &mut colours, NODES).map_or(NODES, |walked| walked.nodes);
+        let all = tuned::choices(&rows, NODES);
+        let choosing = all.len() as f64 / nodes as f64;
+        let step = all.len().div_ceil(GRAPHS).max(1);
+        let met: Vec<_> = all.into_iter().step_by(step).collect();
+        let graphs: Vec<_> = met.iter().map(|met| described::Graph::held(met.live, &met.rows)).collect();
+        let same = |(met, graph): (&tuned::Choice, &described::Graph)| {
+            graph.pair() == met.pair() && met.pair() == proved::pair(met.live, &met.rows)
+        };
+        if !met.iter().zip(&graphs).all(same) {
+            println!("{name}: the choices differ");
+            return false;
+        }
+        let taken = seconds(
+            &mut [
+                &mut || graphs.iter().for_each(|graph| discard(graph.pair())),
+                &mut || met.iter().for_each(|met| discard(met.pair())),
+                &mut || met.iter().for_each(|met| discard(proved::pair(met.live, &met.rows))),
+                &mut || discard(proved::fewest(&rows, &mut colours, NODES)),
+            ],
+            3.0,
+        );
+        let [plain, tuned, proved] = [0, 1, 2].map(|i| taken[i] * 1e9 / met.len() as f64);
+        let node = taken[3] * 1e9 / nodes as f64;
+        let mut cells = vec![name.to_string(), rows.len().to_string(), density(&rows).to_string()];
+        cells.extend([plain, tuned, proved].map(|taken| format!("{taken:.0}")));
+        cells.extend([plain / proved, tuned / proved].map(|ratio| format!("{ratio:.2}")));
+        cells.extend([format!("{node:.0}"), format!("{choosing:.2}"), format!("{:.2}", choosing * proved / node)]);
+        row(&cells);
+    }
+    true
+}
+
+#[cfg(not(feature = "pair_choice"))]
+fn choices(_: &Path, _: &str) -> bool {
     true
 }
 
@@ -317,7 +376,7 @@ fn main() -> ExitCode {
             return ExitCode::FAILURE;
         }
     };
-    if walks(&tests, word) && placings(&tests, word) && bounds(&tests, word) && texts(&tests) {
+    if walks(&tests, word) && placings(&tests, word) && choices(&tests, word) && bounds(&tests, word) && texts(&tests) {
         ExitCode::SUCCESS
     } else {
         ExitCode::FAILURE

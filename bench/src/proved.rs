@@ -43,3 +43,25 @@ pub fn check(list: &[u8], sheet: &[u8], colours: &mut [u8]) -> Option<usize> {
 pub fn check_repeats(list: &[u8], sheet: &[u8], colours: &mut [u8]) -> Option<usize> {
     slotsheet::check_sheet_repeats(list, sheet, colours).ok()
 }
+
+/// The pair choice, which the library does not export: bench/native shows it to the linker under its own name. It has the shape that it is compiled to.
+#[cfg(feature = "pair_choice")]
+pub fn pair(live: u64, rows: &[u64; 64]) -> Option<(usize, usize)> {
+    #[repr(C)]
+    struct Choice {
+        split: u8,
+        u: usize,
+        v: usize,
+    }
+    extern "C" {
+        #[link_name = "graphs::choose_among"]
+        fn choose_among(choice: *mut Choice, live: u64, rows: *const [u64; 64]);
+    }
+    let mut choice = std::mem::MaybeUninit::<Choice>::uninit();
+    // SAFETY: these are the parameters that it is compiled with; of a choice it writes what is read here, the vertices only where there is a split.
+    unsafe {
+        choose_among(choice.as_mut_ptr(), live, rows);
+        let choice = choice.as_ptr();
+        ((*choice).split == 1).then(|| ((*choice).u, (*choice).v))
+    }
+}

@@ -272,7 +272,7 @@ fn most_common(rows: &Rows, row: u64, others: u64) -> (usize, u64) {
     (most, having)
 }
 
-struct State {
+struct State<W> {
     budget: u64,
     nodes: u64,
     best: u32,
@@ -280,9 +280,16 @@ struct State {
     best_path: [Pair; 64],
     best_length: usize,
     path: [Pair; 64],
+    /// Is told each graph at which a pair is chosen; nothing where a walk is measured.
+    watch: W,
 }
 
-impl State {
+impl<W: FnMut(&Rows, u64)> State<W> {
+    fn start(n: usize, budget: u64, watch: W) -> State<W> {
+        let nowhere = [Pair { u: 0, v: 0 }; 64];
+        State { budget, nodes: 0, best: n as u32, best_path: nowhere, best_length: 0, path: nowhere, watch }
+    }
+
     /// Walks from a node whose rows are its own; false where the budget is spent.
     fn enter(&mut self, rows: &mut Rows, live: u64, level: usize) -> bool {
         loop {
@@ -293,6 +300,7 @@ impl State {
             if reaches(rows, live, self.best) {
                 return true;
             }
+            (self.watch)(rows, live);
             let Some(pair) = pair(rows, live) else {
                 self.best = size(live);
                 self.best_path = self.path;
@@ -342,8 +350,7 @@ pub fn fewest(rows: &[u64], colours: &mut [u8], budget: u64) -> Result<Walked, R
     let n = rows.len();
     let mut root = [0; 64];
     root[..n].copy_from_slice(rows);
-    let nowhere = [Pair { u: 0, v: 0 }; 64];
-    let mut state = State { budget, nodes: 0, best: n as u32, best_path: nowhere, best_length: 0, path: nowhere };
+    let mut state = State::start(n, budget, |_: &Rows, _| ());
     if !state.enter(&mut root, below(n), 0) {
         return Err(Refused { place: state.nodes, ..Refusal::Budget.bare() });
     }
@@ -351,6 +358,27 @@ pub fn fewest(rows: &[u64], colours: &mut [u8], budget: u64) -> Result<Walked, R
     root[..n].copy_from_slice(rows);
     let clique = clique(&root, below(n), u32::MAX).members;
     Ok(Walked { k: u64::from(state.best), nodes: state.nodes, complete: 0, clique })
+}
+
+/// A graph at which a pair is chosen, as the walk holds it: its rows are read through the live set.
+pub struct Choice {
+    pub live: u64,
+    pub rows: Rows,
+}
+
+impl Choice {
+    pub fn pair(&self) -> Option<(usize, usize)> {
+        pair(&self.rows, self.live).map(|Pair { u, v }| (u, v))
+    }
+}
+
+/// The graphs at which the walk chooses a pair in its first `budget` nodes, or in all.
+pub fn choices(list: &[u64], budget: u64) -> Vec<Choice> {
+    let mut met = Vec::new();
+    let mut root = [0; 64];
+    root[..list.len()].copy_from_slice(list);
+    State::start(list.len(), budget, |rows: &Rows, live| met.push(Choice { live, rows: *rows })).enter(&mut root, below(list.len()), 0);
+    met
 }
 
 /// Both bounds alone: the clique, whose size is one, and the Mycielskian bound.
