@@ -41,7 +41,7 @@ pub fn mycielskian_at(h: Node) -> usize
 }
 
 // Is the Mycielskian bound of lent rows not below `best`? It ends as soon as that is known: fewer live vertices than `best` need no clique.
-pub fn reaches(live: u64, rows: &[u64; 64], best: usize) -> bool
+pub fn reaches(live: u64, rows: &[u64], best: usize) -> bool
     requires { ⌜ Holds live (now rows) ⌝ }
     ensures { λ r. ⌜ Each live (now (rows .entry)) (λ h. r ≡ leb best (mycielskian (h .n) (view h))) ⌝ }
 {
