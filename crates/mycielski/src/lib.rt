@@ -149,8 +149,8 @@ pub fn first_witnesses(live: u64, rows: &[u64], c: u64) -> u64
 }
 
 // W: the live vertices that are adjacent, for each v in H, to some member of S(v).
-pub fn witnesses(live: u64, rows: &[u64], set: u64, near: &[u64; 64]) -> u64
-    requires { ⌜ length (now rows) ≡ 64 ⌝ }
+pub fn witnesses(live: u64, rows: &[u64], set: u64, near: &[u64]) -> u64
+    requires { ⌜ (length (now rows) ≡ 64) × (length (now near) ≡ 64) ⌝ }
     requires { ⌜ Among live (record { set = set; near = now near }) ⌝ }
     ensures { λ r. ⌜ Each live (now (rows .entry)) (λ h. (x : ℕ) → has r x ≡ ofW (h .n) (view h) (partOf (record { set = set; near = now (near .entry) })) x) ⌝ }
 {
@@ -169,8 +169,8 @@ pub fn witnesses(live: u64, rows: &[u64], set: u64, near: &[u64; 64]) -> u64
 }
 
 // S(v) of each v in H.
-pub fn servings(live: u64, rows: &[u64], set: u64, near: &[u64; 64]) -> [u64; 64]
-    requires { ⌜ length (now rows) ≡ 64 ⌝ }
+pub fn servings(live: u64, rows: &[u64], set: u64, near: &[u64]) -> [u64; 64]
+    requires { ⌜ (length (now rows) ≡ 64) × (length (now near) ≡ 64) ⌝ }
     requires { ⌜ Among live (record { set = set; near = now near }) ⌝ }
     ensures { λ r. ⌜ Each live (now (rows .entry)) (λ h. Serves (h .n) (view h) (record { set = set; near = now (near .entry) }) r) ⌝ }
 {

@@ -90,18 +90,18 @@ returns c =
 
 witnesses-requires : tie.Need-witnesses-requires Inv-loop μ-loop
 witnesses-requires c κs =
-    let a = c .before .before .before .before .before .before .before .before .before .before .before .before .before .before in
-    let l = c .before .before .before .before .before .loop in
+    let a = c .before .before .before .before .before .before .before .before .before .before .before .before .before .before .before in
+    let l = c .before .before .before .before .before .before .loop in
     let q = a .pre .0 in
-    (q .1 .rows-long, climb-among (holding (a .args .live) (a .args .rows .now) (q .0)) (q .1) (l .p) (l .b) (l .inv (q .0) (q .1)))
+    ((q .1 .rows-long, search needs), climb-among (holding (a .args .live) (a .args .rows .now) (q .0)) (q .1) (l .p) (l .b) (l .inv (q .0) (q .1)))
 
 returns-2 : tie.Need-returns-2 Inv-loop μ-loop
 returns-2 c =
-    let a = c .before .before .before .before .before .before .before .before .before .before .before .before .before .before .before .before in
-    let sized = c .before .before .before .before .before .before .before .before .before .before .before .before .before .before .size in
-    let l = c .before .before .before .before .before .before .before .loop in
-    let sized3 = c .before .before .before .before .before .size3 in
-    let test = c .before .before .before .before .if1 in
+    let a = c .before .before .before .before .before .before .before .before .before .before .before .before .before .before .before .before .before in
+    let sized = c .before .before .before .before .before .before .before .before .before .before .before .before .before .before .before .size in
+    let l = c .before .before .before .before .before .before .before .before .loop in
+    let sized3 = c .before .before .before .before .before .before .size3 in
+    let test = c .before .before .before .before .before .if1 in
     let witnesses = c .before .witnesses in
     λ m k.
     let h = holding (a .args .live) (a .args .rows .now) m in
@@ -117,11 +117,11 @@ add-result c = search needs
 
 returns-3 : tie.Need-returns-3 Inv-loop μ-loop
 returns-3 c =
-    let a = c .before .before .before .before .before .before .before .before .before .before .before .before .before .before .before .before .before in
-    let sized = c .before .before .before .before .before .before .before .before .before .before .before .before .before .before .before .size in
-    let l = c .before .before .before .before .before .before .before .before .loop in
-    let sized3 = c .before .before .before .before .before .before .size3 in
-    let test = c .before .before .before .before .before .if1 in
+    let a = c .before .before .before .before .before .before .before .before .before .before .before .before .before .before .before .before .before .before in
+    let sized = c .before .before .before .before .before .before .before .before .before .before .before .before .before .before .before .before .size in
+    let l = c .before .before .before .before .before .before .before .before .before .loop in
+    let sized3 = c .before .before .before .before .before .before .before .size3 in
+    let test = c .before .before .before .before .before .before .if1 in
     let witnesses = c .before .before .witnesses in
     λ m k.
     let h = holding (a .args .live) (a .args .rows .now) m in
@@ -131,22 +131,22 @@ returns-3 c =
 
 servings-requires : tie.Need-servings-requires Inv-loop μ-loop
 servings-requires c κs =
-    let a = c .before .before .before .before .before .before .before .before .before .before .before .before .before .before .before .before .before .before .before in
-    let l = c .before .before .before .before .before .before .before .before .before .before .loop in
+    let a = c .before .before .before .before .before .before .before .before .before .before .before .before .before .before .before .before .before .before .before .before .before in
+    let l = c .before .before .before .before .before .before .before .before .before .before .before .before .loop in
     let q = a .pre .0 in
-    (q .1 .rows-long, climb-among (holding (a .args .live) (a .args .rows .now) (q .0)) (q .1) (l .p) (l .b) (l .inv (q .0) (q .1)))
+    ((q .1 .rows-long, search needs), climb-among (holding (a .args .live) (a .args .rows .now) (q .0)) (q .1) (l .p) (l .b) (l .inv (q .0) (q .1)))
 
 lowest-requires-2 : tie.Need-lowest-requires-2 Inv-loop μ-loop
-lowest-requires-2 c κs = c .before .before .before .before .if2 .left
+lowest-requires-2 c κs = c .before .before .before .before .before .if2 .left
 
 extended-requires-2 : tie.Need-extended-requires-2 Inv-loop μ-loop
 extended-requires-2 c κs =
-    let a = c .before .before .before .before .before .before .before .before .before .before .before .before .before .before .before .before .before .before .before .before .before .before in
-    let sized = c .before .before .before .before .before .before .before .before .before .before .before .before .before .before .before .before .before .before .before .before .size in
-    let l = c .before .before .before .before .before .before .before .before .before .before .before .before .before .loop in
-    let sized3 = c .before .before .before .before .before .before .before .before .before .before .before .size3 in
-    let test = c .before .before .before .before .before .before .before .before .before .before .if1 in
-    let witnesses = c .before .before .before .before .before .before .before .witnesses in
+    let a = c .before .before .before .before .before .before .before .before .before .before .before .before .before .before .before .before .before .before .before .before .before .before .before .before in
+    let sized = c .before .before .before .before .before .before .before .before .before .before .before .before .before .before .before .before .before .before .before .before .before .before .size in
+    let l = c .before .before .before .before .before .before .before .before .before .before .before .before .before .before .before .loop in
+    let sized3 = c .before .before .before .before .before .before .before .before .before .before .before .before .before .size3 in
+    let test = c .before .before .before .before .before .before .before .before .before .before .before .before .if1 in
+    let witnesses = c .before .before .before .before .before .before .before .before .witnesses in
     let low2 = c .before .lowest2 in
     let q = a .pre .0 in (
       q,
@@ -166,8 +166,8 @@ extended-requires-2 c κs =
 
 add-b-2 : tie.Need-add-b-2 Inv-loop μ-loop
 add-b-2 c =
-    let a = c .before .before .before .before .before .before .before .before .before .before .before .before .before .before .before .before .before .before .before .before .before .before .before in
-    let ends = c .before .before .before .before .before .before .before .before .before .before .before .before .before .loop-test in
+    let a = c .before .before .before .before .before .before .before .before .before .before .before .before .before .before .before .before .before .before .before .before .before .before .before .before .before in
+    let ends = c .before .before .before .before .before .before .before .before .before .before .before .before .before .before .before .loop-test in
     omega (arith, ends .taken, a .fits .enough .fits)
 
 loop-less : tie.Need-loop-less Inv-loop μ-loop
@@ -175,12 +175,12 @@ loop-less c = search needs
 
 loop-again : tie.Need-loop-again Inv-loop μ-loop
 loop-again c =
-    let a = c .before .before .before .before .before .before .before .before .before .before .before .before .before .before .before .before .before .before .before .before .before .before .before in
-    let sized = c .before .before .before .before .before .before .before .before .before .before .before .before .before .before .before .before .before .before .before .before .before .size in
-    let l = c .before .before .before .before .before .before .before .before .before .before .before .before .before .before .loop in
-    let sized3 = c .before .before .before .before .before .before .before .before .before .before .before .before .size3 in
-    let test = c .before .before .before .before .before .before .before .before .before .before .before .if1 in
-    let witnesses = c .before .before .before .before .before .before .before .before .witnesses in
+    let a = c .before .before .before .before .before .before .before .before .before .before .before .before .before .before .before .before .before .before .before .before .before .before .before .before .before in
+    let sized = c .before .before .before .before .before .before .before .before .before .before .before .before .before .before .before .before .before .before .before .before .before .before .before .size in
+    let l = c .before .before .before .before .before .before .before .before .before .before .before .before .before .before .before .before .loop in
+    let sized3 = c .before .before .before .before .before .before .before .before .before .before .before .before .before .before .size3 in
+    let test = c .before .before .before .before .before .before .before .before .before .before .before .before .before .if1 in
+    let witnesses = c .before .before .before .before .before .before .before .before .before .witnesses in
     let low2 = c .before .before .lowest2 in
     λ m k.
     rw (add-one (l .b))
