@@ -117,22 +117,22 @@ enter-returns t c =
     comes-out (rule (a .args .n)) (here t a) (a .args .s) (a .pre .1) (c .before .counted .result) (c .before .counted .ensures) (c .if1 .taken)
 
 enter-reaches-requires : (t : ℕ) → enter-lts.Need-reaches-requires (enter-claims t) (enter-at t) enter.Post
-enter-reaches-requires t c κs = let a = c .before .before .before in (here t a, a .pre .1 .held)
+enter-reaches-requires t c κs = let a = c .before .before .before .before in (here t a, a .pre .1 .held)
 
 enter-returns-2 : (t : ℕ) → enter-lts.Need-returns-2 (enter-claims t) (enter-at t) enter.Post
 enter-returns-2 t c =
-    let e = c .before .before .before in
+    let e = c .before .before .before .before in
     let a = e .before .before in
     comes-cut (rule (a .args .n)) (here t a) (a .args .s) (a .pre .1) (e .before .counted .result) (enter-on t e) (sym (c .before .reaches .ensures (here t a) (a .pre .1 .held)) ∙ c .if2 .taken)
 
 enter-choose-among-requires : (t : ℕ) → enter-lts.Need-choose-among-requires (enter-claims t) (enter-at t) enter.Post
-enter-choose-among-requires t c κs = let a = c .before .before .before .before .before .before in (here t a, a .pre .1 .held)
+enter-choose-among-requires t c κs = let a = c .before .before .before .before .before .before .before .before in (here t a, a .pre .1 .held)
 
 enter-enum-told : (t : ℕ) → enter-lts.Need-enum-told (enter-claims t) (enter-at t) enter.Post
 enter-enum-told t c = search needs
 
 enter-improved-requires : (t : ℕ) → enter-lts.Need-improved-requires (enter-claims t) (enter-at t) enter.Post
-enter-improved-requires t c κs = enter-ready t (c .before .before .before .before .before .before .before .before)
+enter-improved-requires t c κs = enter-ready t (c .before .before .before .before .before .before .before .before .before .before)
 
 enter-enum-known-c : (t : ℕ) → enter-lts.Need-enum-known-c (enter-claims t) (enter-at t) enter.Post
 enter-enum-known-c t c = search needs
@@ -140,7 +140,7 @@ enter-enum-known-c t c = search needs
 enter-split-requires : (t : ℕ) → enter-lts.Need-split-requires (enter-claims t) (enter-at t) enter.Post
 enter-split-requires t c κs =
     let d = c .before .before .before .before in
-    let e = d .before .before .before .before .before in
+    let e = d .before .before .before .before .before .before .before in
     let a = e .before .before in
     let p : living (here t a) * 2 + 1 ≡ t = a .pre .0 in
     (omega arith, record { ready = enter-ready t e; at = sym (d .choose-among .ensures (here t a) (a .pre .1 .held)) ∙ ap choiceOf (c .before .before .c .given .1) })
@@ -148,20 +148,20 @@ enter-split-requires t c κs =
 enter-returns-3 : (t : ℕ) → enter-lts.Need-returns-3 (enter-claims t) (enter-at t) enter.Post
 enter-returns-3 t c =
     let d = c .before .before .before .before in
-    let e = d .before .before .before .before .before in
+    let e = d .before .before .before .before .before .before .before in
     let a = e .before .before in
     comes-leaf (rule (a .args .n)) (here t a) (a .args .s) (a .pre .1) (e .before .counted .result) (enter-on t e)
-    (sym (d .before .before .before .reaches .ensures (here t a) (a .pre .1 .held)) ∙ d .before .before .if2 .left)
+    (sym (d .before .before .before .before .reaches .ensures (here t a) (a .pre .1 .held)) ∙ d .before .before .before .if2 .left)
     (sym (d .choose-among .ensures (here t a) (a .pre .1 .held)) ∙ ap choiceOf (c .before .before .enum-told .given .1)) (c .improved .result) (c .improved .ensures)
 
 enter-returns-4 : (t : ℕ) → enter-lts.Need-returns-4 (enter-claims t) (enter-at t) enter.Post
 enter-returns-4 t c =
     let d = c .before .before .before .before .before in
-    let e = d .before .before .before .before .before in
+    let e = d .before .before .before .before .before .before .before in
     let a = e .before .before in
     let k = c .before .before .before .c .given in
     comes-fork (rule (a .args .n)) (here t a) (a .args .s) (a .pre .1) (e .before .counted .result) (enter-on t e)
-    (sym (d .before .before .before .reaches .ensures (here t a) (a .pre .1 .held)) ∙ d .before .before .if2 .left) (k .0 .0) (k .0 .1 .0)
+    (sym (d .before .before .before .before .reaches .ensures (here t a) (a .pre .1 .held)) ∙ d .before .before .before .if2 .left) (k .0 .0) (k .0 .1 .0)
     (sym (d .choose-among .ensures (here t a) (a .pre .1 .held)) ∙ ap choiceOf (k .1)) (c .split .result) (c .split .ensures)
 
 -- what holds where a turn begins: what is left of the walk is what was left at first
@@ -286,34 +286,34 @@ split-returns-2 t c =
     (comes-out (rule (q .n)) q (d .before .before .before .enter .result) (split-ready t d) (c .before .counted .result) (c .before .counted .ensures) (c .if2 .taken))
 
 split-reaches-requires : (t : ℕ) → split-lts.Need-reaches-requires (split-claims t) (split-at t) split.Post split-Inv-loop split-μ-loop
-split-reaches-requires t c κs = let d = c .before .before .before in (parted t d, split-parted t d .held)
+split-reaches-requires t c κs = let d = c .before .before .before .before in (parted t d, split-parted t d .held)
 
 split-returns-3 : (t : ℕ) → split-lts.Need-returns-3 (split-claims t) (split-at t) split.Post split-Inv-loop split-μ-loop
 split-returns-3 t c =
-    let e = c .before .before .before in
+    let e = c .before .before .before .before in
     let d = e .before .before in
     let q = parted t d in
     split-rest t d (e .before .counted .result)
     (comes-cut (rule (q .n)) q (d .before .before .before .enter .result) (split-ready t d) (e .before .counted .result) (split-on t e) (sym (c .before .reaches .ensures q (split-parted t d .held)) ∙ c .if3 .taken))
 
 split-choose-among-requires : (t : ℕ) → split-lts.Need-choose-among-requires (split-claims t) (split-at t) split.Post split-Inv-loop split-μ-loop
-split-choose-among-requires t c κs = let d = c .before .before .before .before .before .before in (parted t d, split-parted t d .held)
+split-choose-among-requires t c κs = let d = c .before .before .before .before .before .before .before .before in (parted t d, split-parted t d .held)
 
 split-enum-told : (t : ℕ) → split-lts.Need-enum-told (split-claims t) (split-at t) split.Post split-Inv-loop split-μ-loop
 split-enum-told t c = search needs
 
 split-improved-requires : (t : ℕ) → split-lts.Need-improved-requires (split-claims t) (split-at t) split.Post split-Inv-loop split-μ-loop
-split-improved-requires t c κs = split-ready-on t (c .before .before .before .before .before .before .before .before)
+split-improved-requires t c κs = split-ready-on t (c .before .before .before .before .before .before .before .before .before .before)
 
 split-returns-4 : (t : ℕ) → split-lts.Need-returns-4 (split-claims t) (split-at t) split.Post split-Inv-loop split-μ-loop
 split-returns-4 t c =
     let m = c .before .before .before .before in
-    let e = m .before .before .before .before .before in
+    let e = m .before .before .before .before .before .before .before in
     let d = e .before .before in
     let q = parted t d in
     split-rest t d (c .improved .result)
     (comes-leaf (rule (q .n)) q (d .before .before .before .enter .result) (split-ready t d) (e .before .counted .result) (split-on t e)
-    (sym (m .before .before .before .reaches .ensures q (split-parted t d .held)) ∙ m .before .before .if3 .left)
+    (sym (m .before .before .before .before .reaches .ensures q (split-parted t d .held)) ∙ m .before .before .before .if3 .left)
     (sym (m .choose-among .ensures q (split-parted t d .held)) ∙ ap choiceOf (c .before .before .enum-told .given .1)) (c .improved .result) (c .improved .ensures))
 
 split-enum-known-c : (t : ℕ) → split-lts.Need-enum-known-c (split-claims t) (split-at t) split.Post split-Inv-loop split-μ-loop
@@ -321,14 +321,14 @@ split-enum-known-c t c = search needs
 
 split-loop-less : (t : ℕ) → split-lts.Need-loop-less (split-claims t) (split-at t) split.Post split-Inv-loop split-μ-loop
 split-loop-less t c =
-    let d = c .before .before .before .before .before .before .before .before .before .before in
+    let d = c .before .before .before .before .before .before .before .before .before .before .before .before in
     let l = d .before .before .before .before .before .before .before .before .before .before .before .before .before in
     separated-falls rule (turning t l) (l .loop .a) (l .loop .b) (l .loop .t) (l .loop .inv .ready) (parted t d) (split-parted t d)
 
 split-loop-again : (t : ℕ) → split-lts.Need-loop-again (split-claims t) (split-at t) split.Post split-Inv-loop split-μ-loop
 split-loop-again t c =
     let m = c .before .before .before in
-    let e = m .before .before .before .before .before in
+    let e = m .before .before .before .before .before .before .before in
     let d = e .before .before in
     let q = parted t d in
     let l = d .before .before .before .before .before .before .before .before .before .before .before .before .before in
@@ -339,7 +339,7 @@ split-loop-again t c =
       lives = separated-lives rule (turning t l) (l .loop .a) (l .loop .b) (l .loop .t) (l .loop .inv .ready) q (split-parted t d) ∙ l .loop .inv .lives;
       rest = λ r f. split-rest t d r
           (comes-fork (rule (q .n)) q (d .before .before .before .enter .result) (split-ready t d) (e .before .counted .result) (split-on t e)
-          (sym (m .before .before .before .reaches .ensures q (split-parted t d .held)) ∙ m .before .before .if3 .left) (k .0 .0) (k .0 .1 .0) p r f);
+          (sym (m .before .before .before .before .reaches .ensures q (split-parted t d .held)) ∙ m .before .before .before .if3 .left) (k .0 .0) (k .0 .1 .0) p r f);
     }
 
 pub +enter+split-spec : {M : Type 1} → statement M

@@ -90,37 +90,37 @@ explore-ready t c = let n = explore-on t c in record { held = c .before .before 
 
 -- and is split
 explore-ready-at : (t : ℕ) (c : explore-lts.After-known-told (explore-claims t) (explore-at t) explore.Post explore-Inv-loop explore-μ-loop)
-    → ReadyAt (turning t (c .before .before .before .before .before .before .before)) (c .before .c .given .0 .0) (c .before .c .given .0 .1 .0) (c .before .before .before .before .before .before .counted .result)
+    → ReadyAt (turning t (c .before .before .before .before .before .before .before .before)) (c .before .c .given .0 .0) (c .before .c .given .0 .1 .0) (c .before .before .before .before .before .before .before .counted .result)
 explore-ready-at t c =
     let d = c .before .before .before in
-    let l = c .before .before .before .before .before .before .before in
-    record { ready = explore-ready t (d .before .before); at = sym (d .choose-among .ensures (turning t l) (l .loop .inv .ready .held)) ∙ ap choiceOf (c .before .c .given .1) }
+    let l = c .before .before .before .before .before .before .before .before in
+    record { ready = explore-ready t (d .before .before .before); at = sym (d .choose-among .ensures (turning t l) (l .loop .inv .ready .held)) ∙ ap choiceOf (c .before .c .given .1) }
 
-explore-pair : (t : ℕ) (c : explore-lts.After-known-told (explore-claims t) (explore-at t) explore.Post explore-Inv-loop explore-μ-loop) → AtPair (turning t (c .before .before .before .before .before .before .before)) (c .before .c .given .0 .0) (c .before .c .given .0 .1 .0)
-explore-pair t c = let k = c .before .c .given in at-pair plain (turning t (c .before .before .before .before .before .before .before)) (k .0 .0) (k .0 .1 .0) (c .before .before .before .before .before .before .counted .result) (explore-ready-at t c)
+explore-pair : (t : ℕ) (c : explore-lts.After-known-told (explore-claims t) (explore-at t) explore.Post explore-Inv-loop explore-μ-loop) → AtPair (turning t (c .before .before .before .before .before .before .before .before)) (c .before .c .given .0 .0) (c .before .c .given .0 .1 .0)
+explore-pair t c = let k = c .before .c .given in at-pair plain (turning t (c .before .before .before .before .before .before .before .before)) (k .0 .0) (k .0 .1 .0) (c .before .before .before .before .before .before .before .counted .result) (explore-ready-at t c)
 
 -- the merged node
 abbrev fewer : (t : ℕ) → explore-lts.After-without (explore-claims t) (explore-at t) explore.Post explore-Inv-loop explore-μ-loop → Node
-fewer t w = node (w .before .before .before .before .before .before .before .before .before .before .before .before .before .before .before .args .n) (w .without .result) (w .before .before .before .merge-rows .last .1 .0) (w .before .rename .last .0)
+fewer t w = node (w .before .before .before .before .before .before .before .before .before .before .before .before .before .before .before .before .args .n) (w .without .result) (w .before .before .before .merge-rows .last .1 .0) (w .before .rename .last .0)
 
 explore-fewer : (t : ℕ) (w : explore-lts.After-without (explore-claims t) (explore-at t) explore.Post explore-Inv-loop explore-μ-loop)
-    → let g = turning t (w .before .before .before .before .before .before .before .before .before .before .before .before .before .before) in let k = w .before .before .before .before .before .before .before .before .c .given in Becomes g (fewer t w) (merge (k .0 .0) (k .0 .1 .0) (view g))
+    → let g = turning t (w .before .before .before .before .before .before .before .before .before .before .before .before .before .before .before) in let k = w .before .before .before .before .before .before .before .before .c .given in Becomes g (fewer t w) (merge (k .0 .0) (k .0 .1 .0) (view g))
 explore-fewer t w =
     let m = w .before .before .before in
-    m .merge-rows .ensures (turning t (m .before .before .before .before .before .before .before .before .before .before .before)) (w .without .result)
+    m .merge-rows .ensures (turning t (m .before .before .before .before .before .before .before .before .before .before .before .before)) (w .without .result)
     (w .before .rename .last .0) (explore-pair t (m .before .before .before .before)) (w .without .ensures) (w .before .rename .ensures)
 
 -- the separated node
 abbrev parted : (t : ℕ) → explore-lts.After-separate-rows (explore-claims t) (explore-at t) explore.Post explore-Inv-loop explore-μ-loop → Node
-parted t c = let a = c .before .before .before .before .before .before .before .before .before .before .before .before .before .before .before .before .before .before .before .before .before in node (a .args .n) (a .args .live) (c .separate-rows .last .0) (a .args .names .now)
+parted t c = let a = c .before .before .before .before .before .before .before .before .before .before .before .before .before .before .before .before .before .before .before .before .before .before in node (a .args .n) (a .args .live) (c .separate-rows .last .0) (a .args .names .now)
 
 explore-parted : (t : ℕ) (c : explore-lts.After-separate-rows (explore-claims t) (explore-at t) explore.Post explore-Inv-loop explore-μ-loop)
     → let h = c .before .before .before .before .before .before .before .before .before .before .before .before .before .before in
-    let g = turning t (h .before .before .before .before .before .before) in
+    let g = turning t (h .before .before .before .before .before .before .before) in
     Becomes g (parted t c) (separate (h .c .given .0 .0) (h .c .given .0 .1 .0) (view g))
 explore-parted t c =
     let h = c .before .before .before .before .before .before .before .before .before .before .before .before .before in
-    c .separate-rows .ensures (turning t (h .before .before .before .before .before .before .before)) (explore-pair t h)
+    c .separate-rows .ensures (turning t (h .before .before .before .before .before .before .before .before)) (explore-pair t h)
 
 explore-loop-holds : (t : ℕ) → explore-lts.Need-loop-holds (explore-claims t) (explore-at t) explore.Post explore-Inv-loop explore-μ-loop
 explore-loop-holds t c = record { ready = c .pre .1; lives = refl; rest = λ r f. f }
@@ -135,18 +135,18 @@ explore-returns t c =
     (comes-out (plain (l .before .args .n)) (turning t l) (l .loop .t) (l .loop .inv .ready) (c .before .counted .result) (c .before .counted .ensures) (c .if1 .taken))
 
 explore-choose-among-requires : (t : ℕ) → explore-lts.Need-choose-among-requires (explore-claims t) (explore-at t) explore.Post explore-Inv-loop explore-μ-loop
-explore-choose-among-requires t c κs = let l = c .before .before .before in (turning t l, l .loop .inv .ready .held)
+explore-choose-among-requires t c κs = let l = c .before .before .before .before in (turning t l, l .loop .inv .ready .held)
 
 explore-enum-told : (t : ℕ) → explore-lts.Need-enum-told (explore-claims t) (explore-at t) explore.Post explore-Inv-loop explore-μ-loop
 explore-enum-told t c = search needs
 
 explore-compared-requires : (t : ℕ) → explore-lts.Need-compared-requires (explore-claims t) (explore-at t) explore.Post explore-Inv-loop explore-μ-loop
-explore-compared-requires t c κs = let e = c .before .before .before .before .before in (explore-ready t e, explore-on t e .strict)
+explore-compared-requires t c κs = let e = c .before .before .before .before .before .before in (explore-ready t e, explore-on t e .strict)
 
 explore-returns-2 : (t : ℕ) → explore-lts.Need-returns-2 (explore-claims t) (explore-at t) explore.Post explore-Inv-loop explore-μ-loop
 explore-returns-2 t c =
     let d = c .before .before .before .before in
-    let e = d .before .before in
+    let e = d .before .before .before in
     let l = e .before .before in
     l .loop .inv .rest (c .compared .result)
     (comes-leaf (plain (l .before .args .n)) (turning t l) (l .loop .t) (l .loop .inv .ready) (e .before .counted .result) (explore-on t e) refl
@@ -175,10 +175,10 @@ explore-explore-requires t c κs =
     let w = c .before .before in
     let h = w .before .before .before .before .before .before .before in
     let k = h .before .c .given in
-    let l = h .before .before .before .before .before .before .before in
+    let l = h .before .before .before .before .before .before .before .before in
     let a = l .before in
     let p : living (node (a .args .n) (a .args .live) (a .args .rows .now) (a .args .names .now)) ≡ t = a .pre .0 in
-    let s = h .before .before .before .before .before .before .counted .result in (
+    let s = h .before .before .before .before .before .before .before .counted .result in (
       omega (arith, merged-falls plain (turning t l) (k .0 .0) (k .0 .1 .0) s (explore-ready-at t h) (fewer t w) (explore-fewer t w), l .loop .inv .lives),
       merged-ready plain (turning t l) (k .0 .0) (k .0 .1 .0) s (explore-ready-at t h) (fewer t w) (explore-fewer t w),
     )
@@ -189,7 +189,7 @@ explore-returns-3 t c =
     let w = x .before .before .before in
     let h = w .before .before .before .before .before .before .before in
     let k = h .before .c .given in
-    let e = h .before .before .before .before .before in
+    let e = h .before .before .before .before .before .before in
     let l = e .before .before in
     let s = e .before .counted .result in
     let p = explore-ready-at t h in
@@ -204,7 +204,7 @@ explore-loop-less : (t : ℕ) → explore-lts.Need-loop-less (explore-claims t) 
 explore-loop-less t c =
     let h = c .before .before .before .before .before .before .before .before .before .before .before .before .before in
     let k = h .before .c .given in
-    let e = h .before .before .before .before .before .before in
+    let e = h .before .before .before .before .before .before .before in
     separated-falls plain (turning t (e .before)) (k .0 .0) (k .0 .1 .0) (e .counted .result) (explore-ready-at t h) (parted t c) (explore-parted t c)
 
 explore-loop-again : (t : ℕ) → explore-lts.Need-loop-again (explore-claims t) (explore-at t) explore.Post explore-Inv-loop explore-μ-loop
@@ -213,7 +213,7 @@ explore-loop-again t c =
     let w = x .before .before .before in
     let h = w .before .before .before .before .before .before .before in
     let k = h .before .c .given in
-    let e = h .before .before .before .before .before in
+    let e = h .before .before .before .before .before .before in
     let l = e .before .before in
     let s = e .before .counted .result in
     let p = explore-ready-at t h in
