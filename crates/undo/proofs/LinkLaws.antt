@@ -2,7 +2,7 @@
 use mathlib.Core.Path.{_≡_, refl, sym, ap, ap₂, _∙_, subst}
 use mathlib.Core.Bool.{Bool, true, false, not, _&&_, _||_, cond}
 use mathlib.Core.List.{List, [], _∷_}
-use Prim.Native.Nat.{ℕ, zero, suc, _+_, _-_, _^_, _≤_, _<_}
+use Prim.Native.Nat.{ℕ, zero, _+_, _-_, _*_, _^_, _≤_, _<_}
 use native.Mathlib.Decide.{decLt}
 use native.Mathlib.Omega.{arith}
 use lib.Dec.{T, eqb, leb, ltb, eqb→eq}
@@ -12,7 +12,7 @@ use Rattle.sets.specs.Set.{has, IsWithout, IsLowest}
 use Rattle.sets.proofs.TestLaws.{or-false, or-assoc, T-ext, T→true, eqb-of}
 use Rattle.sets.proofs.SetLaws.{has-cat, has-none, has-beyond}
 use Rattle.wide.specs.Words.{wide, num}
-use Rattle.wide.specs.Form.{Marked, Unmarked, Fits}
+use Rattle.wide.specs.Form.{One, Marked, Unmarked, Fits}
 use Rattle.wide.specs.declared.Set.{Set}
 use Rattle.wide.proofs.FormLaws.{low-word}
 use Rattle.graphs.specs.Acts.{Linked}
@@ -146,3 +146,23 @@ unfolding num
 has-four-words s a b c d x =
     ap (λ (t : Bool). wordHas (s .a) 0 x || (wordHas (s .b) 64 x || (wordHas (s .c) 128 x || t))) (sym (or-false (wordHas (s .d) 192 x)))
     ∙ words-have (more a (more b (more c (more d none)))) 0 x ∙ from-zero (wide (s .a ∷ s .b ∷ s .c ∷ s .d ∷ [])) x
+
+-- the first word's rows, where there is one; where there are four, each word's after the other's
+module _ {words : ℕ} {lent : List ℕ} (s : Set) (o : One words lent) (f : Fits (64 * words) (num s)) where
+  only : (x : ℕ) → wordHas (s .a) 0 x ≡ has (num s) x
+  only = has-one-word s (subst (λ (w : ℕ). Fits (64 * w) (num s)) (o .words-one) f)
+
+  pub linked-one : {rows r : List ℕ} {u : ℕ} → LinkedBy rows u (wordHas (s .a) 0) r → Linked rows u (num s) r
+  linked-one a = linked-as (num s) only a
+
+  pub unlinked-one : {rows r : List ℕ} {u : ℕ} → UnlinkedBy rows u (wordHas (s .a) 0) r → Unlinked rows u (num s) r
+  unlinked-one a = unlinked-as (num s) only a
+
+module _ (s : Set) (a : s .a < 2 ^ 64) (b : s .b < 2 ^ 64) (c : s .c < 2 ^ 64) (d : s .d < 2 ^ 64) {rows m1 m2 m3 r : List ℕ} {u : ℕ} where
+  pub linked-four : LinkedBy rows u (wordHas (s .a) 0) m1 → LinkedBy m1 u (wordHas (s .b) 64) m2 → LinkedBy m2 u (wordHas (s .c) 128) m3
+      → LinkedBy m3 u (wordHas (s .d) 192) r → Linked rows u (num s) r
+  linked-four e f g h = linked-as (num s) (has-four-words s a b c d) (linked-both e (linked-both f (linked-both g h)))
+
+  pub unlinked-four : UnlinkedBy rows u (wordHas (s .a) 0) m1 → UnlinkedBy m1 u (wordHas (s .b) 64) m2 → UnlinkedBy m2 u (wordHas (s .c) 128) m3
+      → UnlinkedBy m3 u (wordHas (s .d) 192) r → Unlinked rows u (num s) r
+  unlinked-four e f g h = unlinked-as (num s) (has-four-words s a b c d) (unlinked-both e (unlinked-both f (unlinked-both g h)))

@@ -55,6 +55,10 @@ pub is-four : {words : ℕ} {rows : List ℕ} → (words ≡ 1 → ⊥) → Form
 is-four e (inl o) = absurd (e (o .words-one))
 is-four e (inr f) = f
 
+pub not-four : {words : ℕ} {rows : List ℕ} → (words ≡ 4 → ⊥) → Form words rows → One words rows
+not-four e (inl o) = o
+not-four e (inr f) = absurd (e (f .words-four))
+
 pub one-or-four : {words : ℕ} {rows : List ℕ} → Form words rows → (words ≡ 1) ⊎ (words ≡ 4)
 one-or-four (inl o) = inl (o .words-one)
 one-or-four (inr f) = inr (f .words-four)
@@ -62,6 +66,10 @@ one-or-four (inr f) = inr (f .words-four)
 pub words-few : {words : ℕ} {rows : List ℕ} → Form words rows → words ≤ 4
 words-few (inl o) = omega (arith, o .words-one)
 words-few (inr f) = omega (arith, f .words-four)
+
+pub words-some : {words : ℕ} {rows : List ℕ} → Form words rows → 0 < words
+words-some (inl o) = omega (arith, o .words-one)
+words-some (inr f) = omega (arith, f .words-four)
 
 -- as many numbers
 pub form-same : {words : ℕ} {rows r : List ℕ} → Form words rows → length r ≡ length rows → Form words r
