@@ -1,5 +1,5 @@
 -- Rows that are changed and changed back are the rows, number by number. Assumes nothing.
-use mathlib.Core.Path.{_≡_, refl, sym, ap, ap₂, _∙_, subst}
+use mathlib.Core.Path.{_≡_, refl, sym, ap, ap₂, _∙_, subst, subst₂}
 use mathlib.Core.Logic.{_≢_, _⊎_, inl, inr}
 use mathlib.Core.Bool.{Bool, true, false, not, _&&_, _||_, cond}
 use mathlib.Core.List.{List}
@@ -10,16 +10,17 @@ use lib.Dec.{T, eqb, eqb→eq}
 use lib.ListN.{length, getD, set, length-set}
 use lib.Seq.{getD-set-same, getD-set-other, ext-getD}
 use borrow.Author.Tests.{ne-eqb}
-use Rattle.sets.specs.Set.{has, IsWith, IsMeet, IsLess}
+use Rattle.sets.specs.Set.{has, IsWith, IsJoin, IsMeet, IsLess}
 use Rattle.sets.proofs.TestLaws.{and-l, and-r, and-t, or-false, or-assoc, or-cases, t-not, eqb-same, eqb-turn}
 use Rattle.sets.proofs.SetLaws.{same-members}
-use Rattle.wide.specs.Form.{Marked, Unmarked}
-use Rattle.graphs.specs.Held.{view, holding}
+use Rattle.wide.specs.Form.{Fits, Marked, Unmarked}
+use Rattle.wide.proofs.FormLaws.{meet-fits, less-fits}
+use Rattle.graphs.specs.Held.{view, node, holding}
 use Rattle.graphs.specs.Acts.{PairAt, SeparatedAt, Linked}
 use Rattle.graphs.specs.declared.Node.{Node}
-use Rattle.graphs.proofs.HeldLaws.{live-held, separated-is}
+use Rattle.graphs.proofs.HeldLaws.{live-held, merged-is, separated-is}
 use Rattle.graphs.proofs.SplitLaws.{chosen-differ}
-use Rattle.undo.specs.Back.{Unlinked, Undone, hit, Cut, Separates}
+use Rattle.undo.specs.Back.{Unlinked, Undone, Merges, hit, Cut, Separates}
 
 -- ---- rows with the same bits are the same
 
@@ -95,6 +96,28 @@ module _ {cap : ℕ} (h : Node) (u v : ℕ) (p : PairAt cap h u v) where
             rw (ne-eqb x u q, getD-set-other linked u x joined zero q, l .is x y)
             (added-back (has (row x) y) (has near x && eqb u y)
             (λ t k. near-free x (and-l (has near x) (eqb u y) t) (subst (λ (z : ℕ). T (has (row x) z)) (sym (eqb→eq u y (and-r (has near x) (eqb u y) t))) k)))
+
+-- u's row becomes the two rows joined, and near get u for a neighbour
+module _ (cap live : ℕ) (rows linked r : List ℕ) (u v old other beside near joined : ℕ) (is-old : old ≡ getD rows u zero) (is-other : other ≡ getD rows v zero)
+    (is-beside : IsMeet other live beside) (is-near : IsLess beside old near) (is-linked : Linked rows u near linked) (is-joined : IsJoin old other joined)
+    (is-rows : r ≡ set linked u joined) where
+  at-v : IsMeet (getD rows v zero) live beside
+  at-v = subst (λ (k : ℕ). IsMeet k live beside) is-other is-beside
+
+  at-u : IsLess beside (getD rows u zero) near
+  at-u = subst (λ (k : ℕ). IsLess beside k near) is-old is-near
+
+  both-rows : IsJoin (getD rows u zero) (getD rows v zero) joined
+  both-rows = subst₂ (λ (k l : ℕ). IsJoin k l joined) is-old is-other is-joined
+
+  pub merges-is : Fits cap old → Fits cap other → Merges cap live rows u v r old near
+  merges-is f g = record {
+    is = λ m left names p without renamed. merged-is (holding live rows m) (node (m .n) left r names) u v p beside near linked joined refl at-v at-u is-linked both-rows is-rows renamed without;
+    back = λ m p.
+        subst₂ (λ (l : List ℕ) (k : ℕ). Undone l u k near rows) (sym is-rows) (sym is-old) (merged-back (holding live rows m) u v p beside near at-v at-u linked joined is-linked);
+    old-fits = f;
+    near-fits = less-fits cap beside old near (meet-fits cap other live beside g is-beside) is-near;
+  }
 
 -- ---- one edge, added and taken away
 

@@ -1,7 +1,7 @@
 -- Rows of one word are the lent numbers themselves, and their sets the lowest words; rows of four words are what the four-word functions speak of.
 -- Assumes nothing.
 use mathlib.Core.Path.{_≡_, sym, ap, ap₂, _∙_, subst}
-use mathlib.Core.Logic.{_⊎_, inl, inr}
+use mathlib.Core.Logic.{_⊎_, inl, inr, ⊎-elim}
 use mathlib.Core.Bool.{not, _&&_, _||_}
 use mathlib.Core.List.{List, [], _∷_}
 use Prim.Native.Nat.{ℕ, zero, _+_, _*_, _/_, _%_, _^_, _≤_, _<_}
@@ -9,9 +9,9 @@ use native.Mathlib.Decide.{decLt}
 use native.Mathlib.Omega.{arith}
 use lib.Dec.{T}
 use lib.ListN.{length, getD, set, length-set}
-use Rattle.sets.specs.Set.{IsWith, IsWithout}
+use Rattle.sets.specs.Set.{has, IsWith, IsWithout, IsJoin, IsMeet, IsLess}
 use Rattle.sets.proofs.SetLaws.{has-beyond, has-shifted, no-members}
-use Rattle.sets.proofs.TestLaws.{or-false, and-true}
+use Rattle.sets.proofs.TestLaws.{and-l, or-cases, or-false, and-true}
 use Rattle.wide.specs.Words.{wide, num, rowsOf}
 use Rattle.wide.specs.Form.{held, One, Four, Form, Fits, Marked, Unmarked}
 use Rattle.wide.specs.declared.Set.{Set}
@@ -32,6 +32,15 @@ pub fits-lt : (s : ℕ) → Fits 64 s → s < 2 ^ 64
 fits-lt s f =
     let z : s / 2 ^ 64 ≡ 0 = no-members (s / 2 ^ 64) (λ i t. absurd (let l = f (64 + i) (subst T (has-shifted 64 s i) t) in let e : ⊥ = omega arith in e)) in
     omega arith
+
+pub meet-fits : (cap s t r : ℕ) → Fits cap s → IsMeet s t r → Fits cap r
+meet-fits cap s t r f m i h = f i (and-l (has s i) (has t i) (subst T (m i) h))
+
+pub less-fits : (cap s t r : ℕ) → Fits cap s → IsLess s t r → Fits cap r
+less-fits cap s t r f m i h = f i (and-l (has s i) (not (has t i)) (subst T (m i) h))
+
+pub join-fits : (cap s t r : ℕ) → Fits cap s → Fits cap t → IsJoin s t r → Fits cap r
+join-fits cap s t r f g m i h = ⊎-elim (f i) (g i) (or-cases (has s i) (has t i) (subst T (m i) h))
 
 -- words after the first that are nothing
 low : (h a : ℕ) → h * 2 ^ 64 + a < 2 ^ 64 → h * 2 ^ 64 + a ≡ a

@@ -1,26 +1,38 @@
+-- `undo::unmerge` meets its contract. Assumes nothing.
+use mathlib.Core.Path.{sym, subst}
+use mathlib.Core.List.{List}
+use Prim.Native.Nat.{ℕ, _*_, _<_}
+use lib.ListN.{length}
+use Rattle.wide.specs.Words.{num}
+use Rattle.wide.specs.Form.{held}
+use Rattle.wide.proofs.RowLaws.{rows-long}
+use Rattle.undo.specs.Back.{Undone}
+use Rattle.undo.proofs.BackLaws.{undone-is}
 use borrow.Author.Needs.{needs}
 use Rattle.undo.proofs.unmerge.Statement.{statement}
 use Rattle.undo.proofs.unmerge.Tie as tie
-use Rattle.undo.proofs.unmerge.Reads as reads
-use Rattle.undo.proofs.unmerge.Lts as lts
-use Rattle.undo.proofs.unlink.Reads as unlink-reads
-use Rattle.wide.proofs.put_row.Reads as put-row-reads
 
--- src/lib.rt:121:5
 unlink-requires : tie.Need-unlink-requires
 unlink-requires c κs = search needs
 
--- src/lib.rt:122:5
 put-row-requires : tie.Need-put-row-requires
 put-row-requires c κs = search needs
 
--- src/lib.rt:111:1
 same-length : tie.Need-same-length
 same-length c = search needs
 
--- src/lib.rt:111:1
 returns : tie.Need-returns
-returns c = ?
+returns c =
+    let s = c .before .before .before .before .before .before .before .before .before .before .before in
+    let a = s .args in
+    let rows = held (a .words) (a .rows .now) in
+    let put = c .before .before .put-row in
+    (
+      put .ensures .0,
+      subst (λ (l : List ℕ). Undone rows (a .u) (num (a .undo .old)) (num (a .undo .near)) l) (sym (put .ensures .1))
+      (undone-is rows _ (a .u) (num (a .undo .old)) (num (a .undo .near))
+      (subst (λ (k : ℕ). a .u < k) (sym (rows-long (a .words) (64 * a .words) (a .rows .now))) (s .pre .1 .0)) (c .before .before .before .before .before .before .unlink .ensures .1)),
+    )
 
 pub unmerge-spec : {M : Type 1} → statement M
 unmerge-spec = tie.close (tie.spec unlink-requires put-row-requires same-length returns)
