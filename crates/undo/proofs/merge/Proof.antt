@@ -27,13 +27,12 @@ link-requires c κs =
     let old = c .before .before .before .before .before .row-of in
     let other = c .before .before .before .row-of2 in
     let beside = c .before .before .meet in
-    let near = c .before .less in
-    (
+    let near = c .before .less in (
       s .pre .0,
       (
         s .pre .1 .0,
         less-fits cap (num (beside .result)) (num (old .result)) (num (near .result))
-        (meet-fits cap (num (other .result)) (num (s .args .live)) (num (beside .result)) (other .ensures .1) (beside .ensures)) (near .ensures),
+            (meet-fits cap (num (other .result)) (num (s .args .live)) (num (beside .result)) (other .ensures .1) (beside .ensures)) (near .ensures),
       ),
     )
 
@@ -44,8 +43,7 @@ put-row-requires : tie.Need-put-row-requires
 put-row-requires c κs =
     let s = c .before .before .before .before .before .before .before .before .before .before .before .before .before in
     let old = c .before .before .before .before .before .before .before .before .before .before .row-of in
-    let other = c .before .before .before .before .before .before .before .before .row-of2 in
-    (
+    let other = c .before .before .before .before .before .before .before .before .row-of2 in (
       c .before .before .before .before .link .ensures .0,
       (
         s .pre .1 .0,
@@ -63,12 +61,11 @@ returns c =
     let other = c .before .before .before .before .before .before .before .before .before .before .before .row-of2 in
     let beside = c .before .before .before .before .before .before .before .before .before .before .meet in
     let near = c .before .before .before .before .before .before .before .before .before .less in
-    let put = c .before .before .put-row in
-    (
+    let put = c .before .before .put-row in (
       put .ensures .0,
       merges-is (64 * a .words) (num (a .live)) (held (a .words) (a .rows .now)) _ _ (a .u) (a .v) (num (old .result)) (num (other .result)) (num (beside .result))
-      (num (near .result)) (num (c .before .before .before .join .result)) (old .ensures .0) (other .ensures .0) (beside .ensures) (near .ensures) (c .before .before .before .before .before .before .before .link .ensures .1)
-      (c .before .before .before .join .ensures) (put .ensures .1) (old .ensures .1) (other .ensures .1),
+          (num (near .result)) (num (c .before .before .before .join .result)) (old .ensures .0) (other .ensures .0) (beside .ensures) (near .ensures) (c .before .before .before .before .before .before .before .link .ensures .1)
+          (c .before .before .before .join .ensures) (put .ensures .1) (old .ensures .1) (other .ensures .1),
     )
 
 pub merge-spec : {M : Type 1} → statement M

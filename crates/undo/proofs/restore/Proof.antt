@@ -50,8 +50,7 @@ unseparate-requires c κs =
     let s = c .before .before .before .before .before .before .before .before .before in
     let e = c .before .before .before .number .result in
     let cap = 64 * s .args .words in
-    let some : 0 < cap = omega (arith, words-some (s .pre .0)) in
-    (
+    let some : 0 < cap = omega (arith, words-some (s .pre .0)) in (
       c .before .before .before .before .before .before .loop .inv .0,
       (
         subst (λ (x : ℕ). x < cap) (sym (c .before .below-cap .ensures)) (mod-lt (e / 256) some),
@@ -68,8 +67,7 @@ loop-again c =
     let l = c .before .before .before .before .before .before .before .before .before .loop in
     let t = c .before .before .before .before .before .before .before .before .loop-test .taken in
     let cap = 64 * a .words in
-    let e = c .before .before .before .before .before .before .number .ensures in
-    (
+    let e = c .before .before .before .before .before .before .number .ensures in (
       c .before .before .unseparate .ensures .0,
       (
         omega (arith, l .inv .1 .0),
@@ -88,12 +86,11 @@ returns : tie.Need-returns Inv-loop μ-loop
 returns c =
     let a = c .before .before .before .before .args in
     let l = c .before .loop in
-    let cap = 64 * a .words in
-    (
+    let cap = 64 * a .words in (
       l .inv .0,
       l .inv .1 .1 (held (a .words) (l .rows))
-      (subst (λ (k : ℕ). Restored cap (a .trail .now) (a .at) k (held (a .words) (l .rows)) (held (a .words) (l .rows))) (let z : 0 ≡ l .left = omega (arith, c .loop-test .left) in z)
-      (restored-none cap (a .trail .now) (a .at) (held (a .words) (l .rows)))),
+          (subst (λ (k : ℕ). Restored cap (a .trail .now) (a .at) k (held (a .words) (l .rows)) (held (a .words) (l .rows))) (let z : 0 ≡ l .left = omega (arith, c .loop-test .left) in z)
+          (restored-none cap (a .trail .now) (a .at) (held (a .words) (l .rows)))),
     )
 
 pub restore-spec : {M : Type 1} → statement M

@@ -22,11 +22,10 @@ same-length c = search needs
 
 returns : tie.Need-returns
 returns c =
-    let s = c .before .before .before .before .before .before .before .before .before .before .before .before .before .before .before .before .before .before .args .s in
-    (
+    let s = c .before .before .before .before .before .before .before .before .before .before .before .before .before .before .before .before .before .before .args .s in (
       c .before .before .unlink-word4 .ensures .0,
       unlinked-four s (search needs) (search needs) (search needs) (search needs) (c .before .before .before .before .before .before .before .before .before .before .before .before .before .before .before .unlink-word .ensures .1) (c .before .before .before .before .before .before .before .before .before .before .unlink-word2 .ensures .1) (c .before .before .before .before .before .before .unlink-word3 .ensures .1)
-      (c .before .before .unlink-word4 .ensures .1),
+          (c .before .before .unlink-word4 .ensures .1),
     )
 
 same-length-2 : tie.Need-same-length-2

@@ -52,8 +52,7 @@ loop-again c =
     let l = c .before .before .before .before .before .before .before .loop in
     let low = c .before .before .before .before .before .lowest in
     let rest = c .before .before .before .before .rest in
-    let a = c .before .before .before .before .before .before .before .before .before .args in
-    (
+    let a = c .before .before .before .before .before .before .before .before .before .args in (
       c .before .before .unmark .ensures .0,
       λ x y.
           unlinked-next (held (a .words) (l .rows)) _ (a .u) (l .left) (low .result) (rest .result) (a .from) (low .ensures .member) (rest .ensures (low .result) (low .ensures))
@@ -66,8 +65,7 @@ same-length c = sym (form-long (c .before .loop .inv .0) .0) ∙ form-long (c .b
 returns : tie.Need-returns Inv-loop μ-loop
 returns c =
     let l = c .before .loop in
-    let a = c .before .before .before .args in
-    (
+    let a = c .before .before .before .args in (
       l .inv .0,
       record {
         long = rows-long (a .words) (64 * a .words) (l .rows) ∙ sym (rows-long (a .words) (64 * a .words) (a .rows .now));

@@ -26,12 +26,11 @@ returns c =
     let s = c .before .before .before .before .before .before .before .before .before .before .before in
     let a = s .args in
     let rows = held (a .words) (a .rows .now) in
-    let put = c .before .before .put-row in
-    (
+    let put = c .before .before .put-row in (
       put .ensures .0,
       subst (λ (l : List ℕ). Undone rows (a .u) (num (a .undo .old)) (num (a .undo .near)) l) (sym (put .ensures .1))
-      (undone-is rows _ (a .u) (num (a .undo .old)) (num (a .undo .near))
-      (subst (λ (k : ℕ). a .u < k) (sym (rows-long (a .words) (64 * a .words) (a .rows .now))) (s .pre .1 .0)) (c .before .before .before .before .before .before .unlink .ensures .1)),
+          (undone-is rows _ (a .u) (num (a .undo .old)) (num (a .undo .near))
+          (subst (λ (k : ℕ). a .u < k) (sym (rows-long (a .words) (64 * a .words) (a .rows .now))) (s .pre .1 .0)) (c .before .before .before .before .before .before .unlink .ensures .1)),
     )
 
 pub unmerge-spec : {M : Type 1} → statement M
