@@ -1,5 +1,5 @@
 -- Rows that are changed and changed back are the rows, number by number. Assumes nothing.
-use mathlib.Core.Path.{_≡_, refl, sym, ap, ap₂, _∙_, subst, subst₂}
+use mathlib.Core.Path.{_≡_, refl, sym, ap, _∙_, subst, subst₂}
 use mathlib.Core.Logic.{_≢_, _⊎_, inl, inr}
 use mathlib.Core.Bool.{Bool, true, false, not, _&&_, _||_, cond}
 use mathlib.Core.List.{List}
@@ -112,9 +112,11 @@ module _ (cap live : ℕ) (rows linked r : List ℕ) (u v old other beside near 
 
   pub merges-is : Fits cap old → Fits cap other → Merges cap live rows u v r old near
   merges-is f g = record {
-    is = λ m left names p without renamed. merged-is (holding live rows m) (node (m .n) left r names) u v p beside near linked joined refl at-v at-u is-linked both-rows is-rows renamed without;
+    is = λ m left names p without renamed.
+        merged-is (holding live rows m) (node (m .n) left r names) u v p beside near linked joined refl at-v at-u is-linked both-rows is-rows renamed without;
     back = λ m p.
-        subst₂ (λ (l : List ℕ) (k : ℕ). Undone l u k near rows) (sym is-rows) (sym is-old) (merged-back (holding live rows m) u v p beside near at-v at-u linked joined is-linked);
+        subst₂ (λ (l : List ℕ) (k : ℕ). Undone l u k near rows) (sym is-rows) (sym is-old)
+        (merged-back (holding live rows m) u v p beside near at-v at-u linked joined is-linked);
     old-fits = f;
     near-fits = less-fits cap beside old near (meet-fits cap other live beside g is-beside) is-near;
   }
@@ -158,7 +160,8 @@ module _ (cap : ℕ) (rows mid r : List ℕ) (u v : ℕ) (a : Marked rows u v mi
   parted m p =
       separated-is (holding (m .live) rows m) (holding (m .live) r m) u v p (getD mid u zero) (getD r v zero) refl (marked-row rows mid u v a)
       (subst (λ (k : ℕ). IsWith k u (getD r v zero)) (one-row rows mid u v a v (λ e. differ (sym e))) (marked-row mid r v u b))
-      (marked-set mid r v u b (omega (arith, a .long, inside)) ∙ ap (λ l. set l v (getD r v zero)) (marked-set rows mid u v a (omega (arith, inside, p .chosen .less)))) refl refl
+      (marked-set mid r v u b (omega (arith, a .long, inside))
+      ∙ ap (λ l. set l v (getD r v zero)) (marked-set rows mid u v a (omega (arith, inside, p .chosen .less)))) refl refl
     where
       differ : u ≢ v
       differ = chosen-differ (m .n) (view (holding (m .live) rows m)) u v (p .chosen)

@@ -1,5 +1,5 @@
 -- Names as a forest: each entry points to the one that it was merged into. Assumes nothing.
-use mathlib.Core.Path.{_≡_, refl, sym, ap, ap₂, _∙_}
+use mathlib.Core.Path.{_≡_, refl, sym, ap, _∙_}
 use mathlib.Core.Logic.{_≢_}
 use mathlib.Core.Bool.{Bool, cond}
 use mathlib.Core.List.{List}
@@ -8,7 +8,7 @@ use native.Mathlib.Decide.{ℕ-discrete, decLt}
 use native.Mathlib.Omega.{arith}
 use lib.ListN.{length, getD, set, length-set, List·getD-eq-default}
 use lib.Seq.{getD-set-same, getD-set-other, ext-getD, set-set, set-getD}
-use borrow.Author.Tests.{eq-eqb, ne-eqb}
+use borrow.Author.Tests.{eq-eqb}
 use Rattle.sets.proofs.ListLaws.{length-table, getD-table}
 use Rattle.graphs.specs.Graph.{to}
 use Rattle.graphs.specs.Acts.{Renamed}
@@ -28,8 +28,11 @@ module _ (p : List ℕ) (f : Forest p) where
   enough zero i h = let e : getD p i zero ≡ i = omega (arith, f .falls i) in e
   enough (suc k) i h = go (decLt k (getD p i zero)) (enough k (getD p i zero))
     where
-      go : Dec (k < getD p i zero) → (getD p i zero ≤ k → chase p (suc k) (getD p i zero) ≡ chase p k (getD p i zero)) → chase p (suc k) (getD p i zero) ≡ chase p k (getD p i zero)
-      go (yes b) g = let e : getD p i zero ≡ i = omega (arith, f .falls i) in ap (chase p (suc k)) e ∙ stay p (suc k) i e ∙ sym (ap (chase p k) e ∙ stay p k i e)
+      go : Dec (k < getD p i zero) → (getD p i zero ≤ k → chase p (suc k) (getD p i zero) ≡ chase p k (getD p i zero))
+          → chase p (suc k) (getD p i zero) ≡ chase p k (getD p i zero)
+      go (yes b) g =
+          let e : getD p i zero ≡ i = omega (arith, f .falls i) in
+          ap (chase p (suc k)) e ∙ stay p (suc k) i e ∙ sym (ap (chase p k) e ∙ stay p k i e)
       go (no q) g = g (omega arith)
 
   below : (k i : ℕ) → chase p k i ≤ i

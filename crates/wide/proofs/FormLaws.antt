@@ -15,7 +15,7 @@ use Rattle.sets.proofs.TestLaws.{and-l, or-cases, or-false, and-true}
 use Rattle.wide.specs.Words.{wide, num, rowsOf}
 use Rattle.wide.specs.Form.{held, One, Four, Form, Fits, Marked, Unmarked}
 use Rattle.wide.specs.declared.Set.{Set}
-use Rattle.wide.proofs.WideLaws.{Fit, none, more, wide-lt, rows-one}
+use Rattle.wide.proofs.WideLaws.{none, more, wide-lt, rows-one}
 use Rattle.wide.proofs.RowLaws.{row-end}
 use Rattle.wide.proofs.PlaceLaws.{Small, changed-is, changed-long}
 
@@ -92,6 +92,9 @@ form-long {words} {rows} (inr f) = (subst (λ (w : ℕ). 64 * w * w ≡ length r
 -- the word of a place of a row is one of the lent numbers
 pub place-in : {words : ℕ} {rows : List ℕ} (x u : ℕ) → Form words rows → x < 64 * words → u < 64 * words → x * words + u / 64 < length rows
 place-in {words} x u f a b = let l = form-long f in let e = row-end words x (64 * words) a in omega (arith, l .0)
+
+pub place-few : {words : ℕ} {rows : List ℕ} (x u : ℕ) → Form words rows → x < 64 * words → u < 64 * words → x * words + u / 64 < 1024
+place-few x u f a b = omega (arith, place-in x u f a b, form-long f .1)
 
 -- ---- what the rows are
 

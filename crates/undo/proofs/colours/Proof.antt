@@ -1,9 +1,10 @@
 -- `undo::colours` meets its contract: the bytes below i are the groups of the entries below i, and next is how many they are. Assumes nothing.
-use mathlib.Core.Path.{_≡_, refl, sym, subst₂}
+use mathlib.Core.Path.{refl, sym, subst₂}
 use mathlib.Core.Logic.{⊎-elim}
 use mathlib.Core.List.{List}
-use Prim.Native.Nat.{ℕ, _+_, _-_, _≤_}
+use Prim.Native.Nat.{ℕ, _+_, _-_, _≤_, _<_}
 use native.Mathlib.Omega.{arith}
+use lib.ListN.{length}
 use Rattle.undo.proofs.ColourLaws.{Numbered, numbered-opens, numbered-joins, numbered-all}
 use borrow.Author.Needs.{needs}
 use Rattle.undo.proofs.colours.Statement.{statement}
@@ -36,11 +37,14 @@ add-next c = search needs
 
 slice-read-out : tie.Need-slice-read-out Inv-loop μ-loop
 slice-read-out c =
+    let s = c .before .before .before .before .before in
     let l = c .before .before .before .before .loop in
-    omega (arith, c .before .before .before .before .before .pre .0 .falls (l .i), l .inv .1 .long, c .before .before .before .loop-test .taken, c .before .before .before .before .before .pre .1 .1)
+    omega (arith, s .pre .0 .falls (l .i), l .inv .1 .long, c .before .before .before .loop-test .taken, s .pre .1 .1)
 
 slice-write-out-2 : tie.Need-slice-write-out-2 Inv-loop μ-loop
-slice-write-out-2 c = omega (arith, c .before .before .before .before .loop .inv .1 .long, c .before .before .before .loop-test .taken, c .before .before .before .before .before .pre .1 .1)
+slice-write-out-2 c =
+    let l = c .before .before .before .before .loop in
+    omega (arith, l .inv .1 .long, c .before .before .before .loop-test .taken, c .before .before .before .before .before .pre .1 .1)
 
 add-i : tie.Need-add-i Inv-loop μ-loop
 add-i c = search needs
@@ -51,19 +55,20 @@ loop-less c = search needs
 loop-again : tie.Need-loop-again Inv-loop μ-loop
 loop-again c =
     let s = c .before .before .before .before in
-    let a = s .args in
+    let p = s .args .names .now in
+    let old = s .args .out .now in
     let l = c .before .before .before .loop in
-    let t = c .before .before .loop-test .taken in (
+    let t = c .before .before .loop-test .taken in
+    let inside : l .i < length p = omega (arith, t, s .pre .1 .0) in
+    let room : l .i < length old = omega (arith, t, s .pre .1 .1) in (
       omega (arith, t),
       ⊎-elim
           (λ w.
-          subst₂ (λ (o : List ℕ) (m : ℕ). Numbered (a .names .now) (a .out .now) o m (l .i + 1)) (sym (w .1)) (sym (w .2))
-          (numbered-opens (a .names .now) (a .out .now) (l .out) (l .next) (l .i) (s .pre .0) (omega (arith, t, s .pre .1 .0)) (omega (arith, t, s .pre .1 .1)) (l .inv .1)
-          (w .0 .taken)))
+          subst₂ (λ (o : List ℕ) (m : ℕ). Numbered p old o m (l .i + 1)) (sym (w .1)) (sym (w .2))
+          (numbered-opens p old (l .out) (l .next) (l .i) (s .pre .0) inside room (l .inv .1) (w .0 .taken)))
           (λ w.
-          subst₂ (λ (o : List ℕ) (m : ℕ). Numbered (a .names .now) (a .out .now) o m (l .i + 1)) (sym (w .2)) (sym (w .3))
-          (numbered-joins (a .names .now) (a .out .now) (l .out) (l .next) (l .i) (s .pre .0) (omega (arith, t, s .pre .1 .0)) (omega (arith, t, s .pre .1 .1)) (l .inv .1)
-          (w .0 .left))) (c .if1 .came),
+          subst₂ (λ (o : List ℕ) (m : ℕ). Numbered p old o m (l .i + 1)) (sym (w .2)) (sym (w .3))
+          (numbered-joins p old (l .out) (l .next) (l .i) (s .pre .0) inside room (l .inv .1) (w .0 .left))) (c .if1 .came),
     )
 
 same-length : tie.Need-same-length Inv-loop μ-loop
@@ -78,4 +83,19 @@ returns c =
 pub colours-spec : {M : Type 1} → statement M
 colours-spec =
     tie.close
-    (tie.spec Inv-loop μ-loop loop-holds shared-slice-read-w cast-w cast-out slice-write-out add-next slice-read-out slice-write-out-2 add-i loop-less loop-again same-length returns)
+    (tie.spec
+    Inv-loop
+    μ-loop
+    loop-holds
+    shared-slice-read-w
+    cast-w
+    cast-out
+    slice-write-out
+    add-next
+    slice-read-out
+    slice-write-out-2
+    add-i
+    loop-less
+    loop-again
+    same-length
+    returns)

@@ -22,10 +22,14 @@ same-length c = search needs
 
 returns : tie.Need-returns
 returns c =
-    let s = c .before .before .before .before .before .before .before .before .before .before .before .before .before .before .before .before .before .before .args .s in (
-      c .before .before .link-word4 .ensures .0,
-      linked-four s (search needs) (search needs) (search needs) (search needs) (c .before .before .before .before .before .before .before .before .before .before .before .before .before .before .before .link-word .ensures .1) (c .before .before .before .before .before .before .before .before .before .before .link-word2 .ensures .1) (c .before .before .before .before .before .before .link-word3 .ensures .1)
-          (c .before .before .link-word4 .ensures .1),
+    let s = c .before .before .before .before .before .before .before .before .before .before .before .before .before .before .before .before .before .before .args .s in
+    let all = linked-four s (search needs) (search needs) (search needs) (search needs) in
+    let fourth = c .before .before in
+    let third = fourth .before .before .before .before in
+    let second = third .before .before .before .before in
+    let one = second .before .before .before .before .before in (
+      fourth .link-word4 .ensures .0,
+      all (one .link-word .ensures .1) (second .link-word2 .ensures .1) (third .link-word3 .ensures .1) (fourth .link-word4 .ensures .1),
     )
 
 same-length-2 : tie.Need-same-length-2
@@ -33,8 +37,9 @@ same-length-2 c = search needs
 
 returns-2 : tie.Need-returns-2
 returns-2 c =
-    let s = c .before .before .before .before .before .before in
-    (c .before .before .before .link-word .ensures .0, linked-one (s .args .s) (not-four (c .if1 .left) (s .pre .0)) (s .pre .1 .1) (c .before .before .before .link-word .ensures .1))
+    let done = c .before .before .before in
+    let s = done .before .before .before in
+    (done .link-word .ensures .0, linked-one (s .args .s) (not-four (c .if1 .left) (s .pre .0)) (s .pre .1 .1) (done .link-word .ensures .1))
 
 pub link-spec : {M : Type 1} → statement M
 link-spec = tie.close (tie.spec link-word-requires link-word-requires-2 link-word-requires-3 link-word-requires-4 same-length returns same-length-2 returns-2)

@@ -61,11 +61,13 @@ returns c =
     let other = c .before .before .before .before .before .before .before .before .before .before .before .row-of2 in
     let beside = c .before .before .before .before .before .before .before .before .before .before .meet in
     let near = c .before .before .before .before .before .before .before .before .before .less in
-    let put = c .before .before .put-row in (
-      put .ensures .0,
-      merges-is (64 * a .words) (num (a .live)) (held (a .words) (a .rows .now)) _ _ (a .u) (a .v) (num (old .result)) (num (other .result)) (num (beside .result))
-          (num (near .result)) (num (c .before .before .before .join .result)) (old .ensures .0) (other .ensures .0) (beside .ensures) (near .ensures) (c .before .before .before .before .before .before .before .link .ensures .1)
-          (c .before .before .before .join .ensures) (put .ensures .1) (old .ensures .1) (other .ensures .1),
+    let linked = c .before .before .before .before .before .before .before .link .ensures .1 in
+    let both = c .before .before .before .join in
+    let put = c .before .before .put-row .ensures in (
+      put .0,
+      merges-is (64 * a .words) (num (a .live)) (held (a .words) (a .rows .now)) _ _ (a .u) (a .v)
+          (num (old .result)) (num (other .result)) (num (beside .result)) (num (near .result)) (num (both .result))
+          (old .ensures .0) (other .ensures .0) (beside .ensures) (near .ensures) linked (both .ensures) (put .1) (old .ensures .1) (other .ensures .1),
     )
 
 pub merge-spec : {M : Type 1} → statement M

@@ -1,10 +1,9 @@
 -- `undo::restore` meets its contract. The invariant: what the pairs that are left make of the rows so far, all make of the rows. Assumes nothing.
 use mathlib.Core.Path.{_≡_, sym, ap, _∙_, subst}
 use mathlib.Core.List.{List}
-use Prim.Native.Nat.{ℕ, suc, _+_, _-_, _*_, _/_, _%_, _≤_, _<_}
+use Prim.Native.Nat.{ℕ, suc, _-_, _*_, _/_, _%_, _≤_, _<_}
 use native.Mathlib.Nat.{mod-lt}
 use native.Mathlib.Omega.{arith}
-use lib.ListN.{length}
 use Rattle.wide.specs.Form.{Form, held}
 use Rattle.wide.proofs.FormLaws.{form-long, one-or-four, words-some}
 use Rattle.undo.specs.Back.{Restored}
@@ -65,17 +64,19 @@ loop-again : tie.Need-loop-again Inv-loop μ-loop
 loop-again c =
     let a = c .before .before .before .before .before .before .before .before .before .before .before .before .args in
     let l = c .before .before .before .before .before .before .before .before .before .loop in
-    let t = c .before .before .before .before .before .before .before .before .loop-test .taken in
     let cap = 64 * a .words in
-    let e = c .before .before .before .before .before .before .number .ensures in (
+    let rows = held (a .words) (l .rows) in
+    let e = c .before .before .before .before .before .before .number .ensures in
+    let one : suc (l .left - 1) ≡ l .left = omega (arith, c .before .before .before .before .before .before .before .before .loop-test .taken) in
+    let u = ap (λ (m : ℕ). m / 256 % cap) (sym e) ∙ sym (c .before .before .before .before .below-cap .ensures) in
+    let v = ap (λ (m : ℕ). m % 256 % cap) (sym e) ∙ sym (c .before .before .before .below-cap2 .ensures) in (
       c .before .before .unseparate .ensures .0,
       (
         omega (arith, l .inv .1 .0),
         λ r p.
             l .inv .1 .1 r
-            (subst (λ (k : ℕ). Restored cap (a .trail .now) (a .at) k (held (a .words) (l .rows)) r) (let z : suc (l .left - 1) ≡ l .left = omega (arith, t) in z)
-            (restored-more cap (a .trail .now) (a .at) (l .left - 1) _ _ _ (held (a .words) (l .rows)) r p (c .before .before .unseparate .ensures .1)
-            (ap (λ (m : ℕ). m / 256 % cap) (sym e) ∙ sym (c .before .before .before .before .below-cap .ensures)) (ap (λ (m : ℕ). m % 256 % cap) (sym e) ∙ sym (c .before .before .before .below-cap2 .ensures)))),
+            (subst (λ (k : ℕ). Restored cap (a .trail .now) (a .at) k rows r) one
+            (restored-more cap (a .trail .now) (a .at) (l .left - 1) _ _ _ rows r p (c .before .before .unseparate .ensures .1) u v)),
       ),
     )
 
@@ -86,15 +87,29 @@ returns : tie.Need-returns Inv-loop μ-loop
 returns c =
     let a = c .before .before .before .before .args in
     let l = c .before .loop in
-    let cap = 64 * a .words in (
+    let cap = 64 * a .words in
+    let rows = held (a .words) (l .rows) in
+    let none : 0 ≡ l .left = omega (arith, c .loop-test .left) in (
       l .inv .0,
-      l .inv .1 .1 (held (a .words) (l .rows))
-          (subst (λ (k : ℕ). Restored cap (a .trail .now) (a .at) k (held (a .words) (l .rows)) (held (a .words) (l .rows))) (let z : 0 ≡ l .left = omega (arith, c .loop-test .left) in z)
-          (restored-none cap (a .trail .now) (a .at) (held (a .words) (l .rows)))),
+      l .inv .1 .1 rows (subst (λ (k : ℕ). Restored cap (a .trail .now) (a .at) k rows rows) none (restored-none cap (a .trail .now) (a .at) rows)),
     )
 
 pub restore-spec : {M : Type 1} → statement M
 restore-spec =
     tie.close
-    (tie.spec Inv-loop μ-loop loop-holds sub-left add-number mul-number shared-slice-read-number number-requires below-cap-requires below-cap-requires-2 unseparate-requires loop-less loop-again
-    same-length returns)
+    (tie.spec
+    Inv-loop
+    μ-loop
+    loop-holds
+    sub-left
+    add-number
+    mul-number
+    shared-slice-read-number
+    number-requires
+    below-cap-requires
+    below-cap-requires-2
+    unseparate-requires
+    loop-less
+    loop-again
+    same-length
+    returns)

@@ -18,7 +18,9 @@ same-length c = search needs
 returns : tie.Need-returns
 returns c =
     let a = c .before .before .before .before .before .before .before .before .before .args in
-    (c .before .before .mark2 .ensures .0, separates-is (64 * a .words) (held (a .words) (a .rows .now)) _ _ (a .u) (a .v) (c .before .before .before .before .before .before .mark .ensures .1) (c .before .before .mark2 .ensures .1))
+    let one = c .before .before .before .before .before .before .mark .ensures in
+    let other = c .before .before .mark2 .ensures in
+    (other .0, separates-is (64 * a .words) (held (a .words) (a .rows .now)) _ _ (a .u) (a .v) (one .1) (other .1))
 
 pub separate-spec : {M : Type 1} → statement M
 separate-spec = tie.close (tie.spec mark-requires mark-requires-2 same-length returns)

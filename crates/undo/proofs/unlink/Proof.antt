@@ -22,10 +22,14 @@ same-length c = search needs
 
 returns : tie.Need-returns
 returns c =
-    let s = c .before .before .before .before .before .before .before .before .before .before .before .before .before .before .before .before .before .before .args .s in (
-      c .before .before .unlink-word4 .ensures .0,
-      unlinked-four s (search needs) (search needs) (search needs) (search needs) (c .before .before .before .before .before .before .before .before .before .before .before .before .before .before .before .unlink-word .ensures .1) (c .before .before .before .before .before .before .before .before .before .before .unlink-word2 .ensures .1) (c .before .before .before .before .before .before .unlink-word3 .ensures .1)
-          (c .before .before .unlink-word4 .ensures .1),
+    let s = c .before .before .before .before .before .before .before .before .before .before .before .before .before .before .before .before .before .before .args .s in
+    let all = unlinked-four s (search needs) (search needs) (search needs) (search needs) in
+    let fourth = c .before .before in
+    let third = fourth .before .before .before .before in
+    let second = third .before .before .before .before in
+    let one = second .before .before .before .before .before in (
+      fourth .unlink-word4 .ensures .0,
+      all (one .unlink-word .ensures .1) (second .unlink-word2 .ensures .1) (third .unlink-word3 .ensures .1) (fourth .unlink-word4 .ensures .1),
     )
 
 same-length-2 : tie.Need-same-length-2
@@ -33,8 +37,9 @@ same-length-2 c = search needs
 
 returns-2 : tie.Need-returns-2
 returns-2 c =
-    let s = c .before .before .before .before .before .before in
-    (c .before .before .before .unlink-word .ensures .0, unlinked-one (s .args .s) (not-four (c .if1 .left) (s .pre .0)) (s .pre .1 .1) (c .before .before .before .unlink-word .ensures .1))
+    let done = c .before .before .before in
+    let s = done .before .before .before in
+    (done .unlink-word .ensures .0, unlinked-one (s .args .s) (not-four (c .if1 .left) (s .pre .0)) (s .pre .1 .1) (done .unlink-word .ensures .1))
 
 pub unlink-spec : {M : Type 1} → statement M
 unlink-spec = tie.close (tie.spec unlink-word-requires unlink-word-requires-2 unlink-word-requires-3 unlink-word-requires-4 same-length returns same-length-2 returns-2)

@@ -2,7 +2,6 @@
 use mathlib.Core.Path.{sym, subst}
 use mathlib.Core.List.{List}
 use Prim.Native.Nat.{ℕ, _*_, _<_}
-use lib.ListN.{length}
 use Rattle.wide.specs.Words.{num}
 use Rattle.wide.specs.Form.{held}
 use Rattle.wide.proofs.RowLaws.{rows-long}
@@ -26,11 +25,13 @@ returns c =
     let s = c .before .before .before .before .before .before .before .before .before .before .before in
     let a = s .args in
     let rows = held (a .words) (a .rows .now) in
-    let put = c .before .before .put-row in (
-      put .ensures .0,
-      subst (λ (l : List ℕ). Undone rows (a .u) (num (a .undo .old)) (num (a .undo .near)) l) (sym (put .ensures .1))
-          (undone-is rows _ (a .u) (num (a .undo .old)) (num (a .undo .near))
-          (subst (λ (k : ℕ). a .u < k) (sym (rows-long (a .words) (64 * a .words) (a .rows .now))) (s .pre .1 .0)) (c .before .before .before .before .before .before .unlink .ensures .1)),
+    let old = num (a .undo .old) in
+    let near = num (a .undo .near) in
+    let cut = c .before .before .before .before .before .before .unlink .ensures .1 in
+    let put = c .before .before .put-row .ensures in
+    let inside = subst (λ (k : ℕ). a .u < k) (sym (rows-long (a .words) (64 * a .words) (a .rows .now))) (s .pre .1 .0) in (
+      put .0,
+      subst (λ (l : List ℕ). Undone rows (a .u) old near l) (sym (put .1)) (undone-is rows _ (a .u) old near inside cut),
     )
 
 pub unmerge-spec : {M : Type 1} → statement M

@@ -1,5 +1,4 @@
 -- `undo::unseparate` meets its contract. Assumes nothing.
-use Prim.Native.Nat.{_*_}
 use Rattle.undo.proofs.BackLaws.{cut-is}
 use Rattle.wide.specs.Form.{held}
 use borrow.Author.Needs.{needs}
@@ -18,7 +17,9 @@ same-length c = search needs
 returns : tie.Need-returns
 returns c =
     let a = c .before .before .before .before .before .before .before .before .before .args in
-    (c .before .before .unmark2 .ensures .0, cut-is (held (a .words) (a .rows .now)) _ _ (a .u) (a .v) (c .before .before .before .before .before .before .unmark .ensures .1) (c .before .before .unmark2 .ensures .1))
+    let one = c .before .before .before .before .before .before .unmark .ensures in
+    let other = c .before .before .unmark2 .ensures in
+    (other .0, cut-is (held (a .words) (a .rows .now)) _ _ (a .u) (a .v) (one .1) (other .1))
 
 pub unseparate-spec : {M : Type 1} → statement M
 unseparate-spec = tie.close (tie.spec unmark-requires unmark-requires-2 same-length returns)
