@@ -9,12 +9,12 @@ use lib.Dec.{T, eqb, leb, ltb, eqb→eq}
 use lib.ListN.{getD}
 use borrow.Author.Tests.{lt-ltb, le-ltb, le-leb, lt-leb, ne-eqb}
 use Rattle.sets.specs.Set.{has, IsWithout}
-use Rattle.sets.proofs.TestLaws.{or-false, and-true, T-ext, eqb-of}
+use Rattle.sets.proofs.TestLaws.{or-false, and-true, eqb-turn}
 use Rattle.sets.proofs.SetLaws.{has-cat, has-none, has-beyond}
 use Rattle.wide.specs.Words.{wide, num}
 use Rattle.wide.specs.Form.{One, Marked, Unmarked, Fits}
 use Rattle.wide.specs.declared.Set.{Set}
-use Rattle.wide.proofs.WideLaws.{Fit, none, more}
+use Rattle.wide.proofs.WideLaws.{Fit, none, more, eqb-shift}
 use Rattle.wide.proofs.FormLaws.{low-word}
 use Rattle.graphs.specs.Acts.{Linked}
 use Rattle.undo.specs.Back.{wordHas, LinkedBy, UnlinkedBy, Unlinked}
@@ -50,9 +50,7 @@ word-next left w next from x t h = go (decLt x from)
     here false false f = refl
 
     shift : from ≤ x → eqb (from + w) x ≡ eqb w (x - from)
-    shift b =
-        T-ext (eqb (from + w) x) (eqb w (x - from)) (λ e. eqb-of w (x - from) (let z = eqb→eq (from + w) x e in omega arith))
-        (λ e. eqb-of (from + w) x (let z = eqb→eq w (x - from) e in omega arith))
+    shift b = eqb-turn (from + w) x ∙ sym (eqb-shift x from w b) ∙ eqb-turn (x - from) w
 
     go : Dec (x < from) → wordHas left from x ≡ (eqb (from + w) x || wordHas next from x)
     go (yes b) = rw (lt-leb from x b, ne-eqb (from + w) x (λ e. absurd (let z : ⊥ = omega arith in z)))
