@@ -1,12 +1,14 @@
 // Sets of numbers below 256, held in four words. Each contract is that of the crate `sets` on the number that the words are (`num`), so the laws of
-// sets of any width say all that is known of them.
+// sets of any width say all that is known of them. Then rows that are lent in one word each or in four: `words` says which, and `held` which numbers
+// they are.
 ghost use mathlib.Core.Path.{_≡_};
-ghost use Prim.Native.Nat.{ℕ, _<_, _≤_, _+_};
+ghost use Prim.Native.Nat.{ℕ, _<_, _≤_, _+_, _*_};
 ghost use lib.Dec.{eqb, ltb};
 ghost use lib.ListN.{length, getD, set};
 ghost use mathlib.Core.Bool.{true, false};
 ghost use Rattle.sets.specs.Set.{has as member, size as sizeOf, IsWith, IsWithout, IsJoin, IsMeet, IsLess, IsBelow, IsLowest, IsRest};
 ghost use Rattle.wide.specs.Words.{num, rowsOf};
+ghost use Rattle.wide.specs.Form.{Form, held, Fits, Marked, Unmarked};
 
 // The words, lowest first.
 pub struct Set {
@@ -201,4 +203,68 @@ pub fn put(rows: &mut [u64], i: usize, s: Set)
     rows[k + 1] = s.b;
     rows[k + 2] = s.c;
     rows[k + 3] = s.d;
+}
+
+// One word as a set.
+pub fn up(a: u64) -> Set
+    ensures { λ r. ⌜ num r ≡ a ⌝ }
+{
+    Set {
+        a: a,
+        b: 0,
+        c: 0,
+        d: 0,
+    }
+}
+
+// Row i.
+pub fn row_of(words: usize, rows: &[u64], i: usize) -> Set
+    requires { ⌜ Form words (now rows) ⌝ }
+    requires { ⌜ i < 64 * words ⌝ }
+    ensures { λ r. ⌜ num r ≡ getD (held words (now (rows .entry))) i 0 ⌝ }
+    ensures { λ r. ⌜ Fits (64 * words) (num r) ⌝ }
+{
+    if words == 1 {
+        return up(rows[i]);
+    }
+    row(rows, i)
+}
+
+// Row i becomes s.
+pub fn put_row(words: usize, rows: &mut [u64], i: usize, s: Set)
+    requires { ⌜ Form words (now rows) ⌝ }
+    requires { ⌜ i < 64 * words ⌝ }
+    requires { ⌜ Fits (64 * words) (num s) ⌝ }
+    ensures { λ r. ⌜ Form words (now (rows .exit)) ⌝ }
+    ensures { λ r. ⌜ held words (now (rows .exit)) ≡ set (held words (now (rows .entry))) i (num s) ⌝ }
+{
+    if words == 1 {
+        rows[i] = s.a;
+        return;
+    }
+    put(rows, i, s);
+}
+
+// Row x gets u. One word is touched.
+pub fn mark(words: usize, rows: &mut [u64], x: usize, u: usize)
+    requires { ⌜ Form words (now rows) ⌝ }
+    requires { ⌜ (x < 64 * words) × (u < 64 * words) ⌝ }
+    ensures { λ r. ⌜ Form words (now (rows .exit)) ⌝ }
+    ensures { λ r. ⌜ Marked (held words (now (rows .entry))) x u (held words (now (rows .exit))) ⌝ }
+{
+    let at = x * words + u / 64;
+    let word = sets::with(rows[at], u % 64);
+    rows[at] = word;
+}
+
+// Row x loses u.
+pub fn unmark(words: usize, rows: &mut [u64], x: usize, u: usize)
+    requires { ⌜ Form words (now rows) ⌝ }
+    requires { ⌜ (x < 64 * words) × (u < 64 * words) ⌝ }
+    ensures { λ r. ⌜ Form words (now (rows .exit)) ⌝ }
+    ensures { λ r. ⌜ Unmarked (held words (now (rows .entry))) x u (held words (now (rows .exit))) ⌝ }
+{
+    let at = x * words + u / 64;
+    let word = sets::without(rows[at], u % 64);
+    rows[at] = word;
 }
