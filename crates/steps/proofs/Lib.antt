@@ -1,5 +1,4 @@
 -- The laws of the walks' turns.
-pub mod Turns
-pub mod Splits
-pub mod Compare
-pub mod Starting
+mod Turns
+mod Splits
+mod Compare

@@ -11,12 +11,11 @@
 --   Ready cap h best s    : the walk may enter h from s
 --   Comes n s best r o    : from s the walk came to r and to this best, which hold the described outcome o
 --   Found f h .. best r   : h is complete, and r with this best is what f makes of it
---   Stands n live names .. : names that some node has from which a walk may go on; Named .. P: P is true of every node that has them. So a function that is
---                           lent names alone says what they stand for
+--   Finds f n live names .. : so it is of every node with this live set and these names. So a function that is lent names alone says what they stand for
 --   Merging, Unmerging    : v is merged into u, in rows and names; and that is undone
 --   Parting               : u and v are adjacent, and the pair stands on the trail
---   Laid .. l at          : l's rows are of the form, its names a forest, its best has a byte for each entry, and its trail has room from at on for each pair
---                           that is open
+--   Laid .. l at          : l's rows are of the form, its names a forest for them, its best has a byte for each entry, and its trail has room from at on for
+--                           each pair that is open
 --   Kept words l at l′    : afterwards, in l′, rows and names are as they were, and so is the trail below at
 --   Left words l at k l′  : so they are but for the rows, which are as they were without the k pairs of the trail from at on
 --   Enters, Entered R     : the walk may enter the node held in l; by the rule R it came back from there
@@ -39,7 +38,8 @@ use Rattle.clashes.specs.Matrix.{matrix, SoundUpTo}
 use Rattle.graphs.specs.Graph.{Graph, pair, missing}
 use Rattle.graphs.specs.Held.{HeldAt, view, node}
 use Rattle.graphs.specs.declared.Node.{Node}
-use Rattle.undo.specs.Back.{Merges, Undone, Separates, Restored, Forest, called}
+use Rattle.undo.specs.Back.{Merges, Undone, Separates, Restored}
+use Rattle.undo.specs.Forest.{Forest, called}
 use Rattle.undo.specs.declared.Undo.{Undo}
 use Rattle.zykov.specs.Tree.{below, zykov}
 use Rattle.zykov.specs.Walk.{State as Described, Rule, start}
@@ -56,7 +56,7 @@ abbrev pub lending : List ℕ → List ℕ → List ℕ → List ℕ → Lent
 lending rows names best trail = record { rows = rows; names = names; best = best; trail = trail }
 
 abbrev pub nodeIn : ℕ → ℕ → Set → Lent → Node
-nodeIn words n live l = node n (num live) (held words (l .rows)) (called (64 * words) (l .names))
+nodeIn words n live l = node n (num live) (held words (l .rows)) (called (l .names))
 
 -- ---- a state
 
@@ -97,29 +97,22 @@ pub record Found (take-up : Graph → Described → Described) (h : Node) (best 
 
 -- ---- names alone
 
-pub record Stands (n live : ℕ) (names best : List ℕ) (s : State) : Type 0 where
-  pub cap : ℕ
-  pub rows : List ℕ
-  pub few : cap ≤ 256
-  pub forest : Forest cap names
-  pub ready : Ready cap (node n live rows (called cap names)) best s
-  pub bytes : n ≤ length best
-
-abbrev pub Named : ℕ → ℕ → List ℕ → (Node → Type 0) → Type 0
-Named n live names P =
-    (cap : ℕ) (rows : List ℕ) → cap ≤ 256 → Forest cap names → HeldAt cap (node n live rows (called cap names)) → P (node n live rows (called cap names))
+pub record Finds (f : ℕ → Graph → Described → Described) (n live : ℕ) (names best : List ℕ) (s : State) (best′ : List ℕ) (r : State) : Type 0 where
+  pub long : length best′ ≡ length best
+  pub is : (cap : ℕ) (rows : List ℕ) → cap ≤ 256 → Ready cap (node n live rows (called names)) best s
+      → Found (f n) (node n live rows (called names)) best s best′ r
 
 -- ---- rows, names and the trail
 
 module _ (words : ℕ) where
   pub record Merging (live : Set) (rows names : List ℕ) (u v : ℕ) (rows′ names′ : List ℕ) (d : Undo) : Type 0 where
     pub form : Form words rows′
-    pub rows-are : Merges (64 * words) (num live) (held words rows) u v (held words rows′) d
+    pub rows-are : Merges (64 * words) (num live) (held words rows) u v (held words rows′) (num (d .old)) (num (d .near))
     pub names-are : names′ ≡ set names v u
 
   pub record Unmerging (rows names : List ℕ) (u v : ℕ) (d : Undo) (rows′ names′ : List ℕ) : Type 0 where
     pub form : Form words rows′
-    pub rows-are : Undone (64 * words) (held words rows) u d (held words rows′)
+    pub rows-are : Undone (held words rows) u (num (d .old)) (num (d .near)) (held words rows′)
     pub names-are : names′ ≡ set names v v
 
   pub record Parting (rows trail : List ℕ) (top u v : ℕ) (rows′ trail′ : List ℕ) : Type 0 where
@@ -129,7 +122,8 @@ module _ (words : ℕ) where
 
   pub record Laid (n : ℕ) (live : Set) (l : Lent) (at : ℕ) : Type 0 where
     pub form : Form words (l .rows)
-    pub forest : Forest (64 * words) (l .names)
+    pub forest : Forest (l .names)
+    pub named : length (l .names) ≡ 64 * words
     pub bytes : n ≤ length (l .best)
     pub room : at + missing n (view (nodeIn words n live l)) ≤ length (l .trail)
 

@@ -20,10 +20,11 @@ ghost use Prim.Native.Nat.{_*_, _≤_, _<_};
 ghost use lib.ListN.{length, drop};
 ghost use Rattle.wide.specs.Words.{num, rowsOf};
 ghost use Rattle.wide.specs.Form.{Form, Fits};
+ghost use Rattle.undo.specs.Forest.{Forest};
 ghost use Rattle.clashes.specs.Divisions.{alone as aloneOf};
 ghost use Rattle.bounds.specs.Names.{mycielskian};
 ghost use Rattle.zykov.specs.Walk.{become, compare, bounded, plain as plainRule};
-ghost use Rattle.steps.specs.Going.{lending, begun, counted as countedOf, Found, Stands, Named, Merging, Unmerging, Parting, Enters, Entered, Splits, Onward, Left, Lends, Walked};
+ghost use Rattle.steps.specs.Going.{lending, begun, counted as countedOf, Finds, Merging, Unmerging, Parting, Enters, Entered, Splits, Onward, Lends, Walked};
 
 // A walk on its way: the number of groups of the best division, the nodes entered, the complete graphs met, and the budget of nodes; out says that it
 // would have had to enter more.
@@ -69,8 +70,9 @@ fn counted(s: State) -> State
 
 // The groups of a complete graph become the best.
 fn improved(n: usize, live: Set, names: &[u8], best: &mut [u8], s: State) -> State
-    requires { ⌜ Stands n (num live) (now names) (now best) s ⌝ }
-    ensures { λ r. ⌜ Named n (num live) (now (names .entry)) (λ h. Found (become n) h (now (best .entry)) s (now (best .exit)) r) ⌝ }
+    requires { ⌜ Forest (now names) ⌝ }
+    requires { ⌜ (n ≤ length (now names)) × (n ≤ length (now best)) × (n ≤ 256) ⌝ }
+    ensures { λ r. ⌜ Finds become n (num live) (now (names .entry)) (now (best .entry)) s (now (best .exit)) r ⌝ }
 {
     colours(n, names, best);
     let mut t = s;
@@ -81,7 +83,6 @@ fn improved(n: usize, live: Set, names: &[u8], best: &mut [u8], s: State) -> Sta
 // In rows and names v is merged into u; told is what undoes it.
 fn merge_at(words: usize, live: Set, rows: &mut [u64], names: &mut [u8], u: usize, v: usize) -> Undo
     requires { ⌜ Form words (now rows) ⌝ }
-    requires { ⌜ Fits (64 * words) (num live) ⌝ }
     requires { ⌜ (length (now names) ≡ 64 * words) × (u < 64 * words) × (v < 64 * words) ⌝ }
     ensures { λ r. ⌜ Merging words live (now (rows .entry)) (now (names .entry)) u v (now (rows .exit)) (now (names .exit)) r ⌝ }
 {
@@ -93,6 +94,7 @@ fn merge_at(words: usize, live: Set, rows: &mut [u64], names: &mut [u8], u: usiz
 fn unmerge_at(words: usize, rows: &mut [u64], names: &mut [u8], u: usize, v: usize, undo: Undo)
     requires { ⌜ Form words (now rows) ⌝ }
     requires { ⌜ (length (now names) ≡ 64 * words) × (u < 64 * words) × (v < 64 * words) ⌝ }
+    requires { ⌜ Fits (64 * words) (num (undo .old)) × Fits (64 * words) (num (undo .near)) ⌝ }
     ensures { λ r. ⌜ Unmerging words (now (rows .entry)) (now (names .entry)) u v undo (now (rows .exit)) (now (names .exit)) ⌝ }
 {
     names[v] = v as u8;
@@ -207,9 +209,10 @@ fn split(
 
 // A complete graph is met: it counts, and its groups are kept where they are fewer than the best.
 fn compared(n: usize, live: Set, names: &[u8], best: &mut [u8], s: State) -> State
-    requires { ⌜ Stands n (num live) (now names) (now best) s ⌝ }
+    requires { ⌜ Forest (now names) ⌝ }
+    requires { ⌜ (n ≤ length (now names)) × (n ≤ length (now best)) × (n ≤ 256) ⌝ }
     requires { ⌜ s .leaves < s .nodes ⌝ }
-    ensures { λ r. ⌜ Named n (num live) (now (names .entry)) (λ h. Found (compare n) h (now (best .entry)) s (now (best .exit)) r) ⌝ }
+    ensures { λ r. ⌜ Finds compare n (num live) (now (names .entry)) (now (best .entry)) s (now (best .exit)) r ⌝ }
 {
     let mut t = s;
     t.leaves = t.leaves + 1;
