@@ -2,3 +2,4 @@
 mod Turns
 mod Splits
 mod Compare
+mod Undoing
