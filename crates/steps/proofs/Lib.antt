@@ -3,3 +3,4 @@ mod Turns
 mod Splits
 mod Compare
 mod Undoing
+mod Rounds
