@@ -1,35 +1,43 @@
+-- `steps::compared` meets its contract. Assumes nothing.
+use mathlib.Core.Path.{refl}
 use borrow.Author.Needs.{needs}
+use Rattle.steps.proofs.Compare.{met-ready, compare-kept, compare-better}
 use Rattle.steps.proofs.compared.Statement.{statement}
 use Rattle.steps.proofs.compared.Tie as tie
-use Rattle.steps.proofs.compared.Reads as reads
-use Rattle.steps.proofs.compared.Lts as lts
-use Rattle.steps.proofs.improved.Reads as improved-reads
-use Rattle.wide.proofs.size.Reads as size-reads
 
--- src/lib.rt:218:16
 add-t : tie.Need-add-t
 add-t c = search needs
 
--- src/lib.rt:219:8
 size-requires : tie.Need-size-requires
 size-requires c κs = search needs
 
--- src/lib.rt:220:9
 improved-requires : tie.Need-improved-requires
 improved-requires c κs = search needs
 
--- src/lib.rt:220:9
 same-length : tie.Need-same-length
 same-length c = search needs
 
--- src/lib.rt:220:9
 returns : tie.Need-returns
-returns c = ?
+returns c =
+    let f = c .before .before .improved in
+    let z = c .before .before .before .before .before .before .size in
+    let a = c .before .before .before .before .before .before .before .before .before .before in
+    let strict = a .pre .1 .1 in
+    record {
+      long = f .ensures .long;
+      is = λ cap rows few ready.
+          compare-better cap 256 few _ (a .args .best .now) (a .args .s) ready (z .result) (z .ensures) strict (c .before .before .before .before .if1 .taken) _ _
+          (f .ensures .is cap rows few (met-ready cap 256 few _ (a .args .best .now) (a .args .s) ready (z .result) (z .ensures) strict));
+    }
 
--- src/lib.rt:211:1
 returns-2 : tie.Need-returns-2
-returns-2 c = ?
+returns-2 c =
+    let z = c .before .before .size in
+    let a = c .before .before .before .before .before .before in
+    record {
+      long = refl;
+      is = λ cap rows few ready. compare-kept cap 256 few _ (a .args .best .now) (a .args .s) ready (z .result) (z .ensures) (a .pre .1 .1) (c .if1 .left);
+    }
 
 pub compared-spec : {M : Type 1} → statement M
-compared-spec =
-    tie.close (tie.spec add-t size-requires improved-requires same-length returns returns-2)
+compared-spec = tie.close (tie.spec add-t size-requires improved-requires same-length returns returns-2)

@@ -1,53 +1,57 @@
+-- `steps::copied` meets its contract. Where i numbers are copied, those behind them are as they were. Assumes nothing.
+use mathlib.Core.Path.{_≡_, refl}
+use Prim.Native.Nat.{_-_, _≤_}
+use native.Mathlib.Omega.{arith}
+use borrow.Author.Needs.{needs}
+use lib.ListN.{length}
+use Rattle.steps.proofs.Copying.{onto, onto-next, onto-long, onto-all}
 use Rattle.steps.proofs.copied.Statement.{statement}
 use Rattle.steps.proofs.copied.Tie as tie
-use Rattle.steps.proofs.copied.Reads as reads
-use Rattle.steps.proofs.copied.Lts as lts
 
 abbrev Inv-loop : tie.InvT-loop
-Inv-loop rows held₀ i₀ held i = ?
+Inv-loop rows held₀ i₀ held i = (i ≤ length rows) × (held ≡ onto rows held₀ i)
 
 abbrev μ-loop : tie.MeasureT-loop
-μ-loop rows held₀ i₀ held i = ?
+μ-loop rows held₀ i₀ held i = length rows - i
 
--- src/lib.rt:277:5
+long : (l : tie.At-loop Inv-loop μ-loop) → length (l .loop .held) ≡ length (l .before .args .held .now)
+long l = let a = l .before in onto-long (a .args .rows .now) (a .args .held .now) (l .loop .held) (l .loop .i) (l .loop .inv .1) (l .loop .inv .0) (omega (arith, l .loop .inv .0, a .pre))
+
 loop-holds : tie.Need-loop-holds Inv-loop μ-loop
-loop-holds c = ?
+loop-holds c = (omega arith, refl)
 
--- src/lib.rt:278:19
 mul-held : tie.Need-mul-held Inv-loop μ-loop
-mul-held c = ?
+mul-held c = search needs
 
--- src/lib.rt:278:19
 shared-slice-read-held : tie.Need-shared-slice-read-held Inv-loop μ-loop
-shared-slice-read-held c = ?
+shared-slice-read-held c = omega arith
 
--- src/lib.rt:278:9
 mul-held-2 : tie.Need-mul-held-2 Inv-loop μ-loop
-mul-held-2 c = ?
+mul-held-2 c = search needs
 
--- src/lib.rt:278:9
 slice-write-held : tie.Need-slice-write-held Inv-loop μ-loop
-slice-write-held c = ?
+slice-write-held c = omega (arith, long (c .before .before), c .before .before .before .pre)
 
--- src/lib.rt:279:9
 add-i : tie.Need-add-i Inv-loop μ-loop
-add-i c = ?
+add-i c = search needs
 
--- src/lib.rt:277:5
 loop-less : tie.Need-loop-less Inv-loop μ-loop
-loop-less c = ?
+loop-less c = omega arith
 
--- src/lib.rt:277:5
 loop-again : tie.Need-loop-again Inv-loop μ-loop
-loop-again c = ?
+loop-again c =
+    let l = c .before .before .loop in
+    let a = c .before .before .before in
+    (omega arith, onto-next (a .args .rows .now) (a .args .held .now) (l .held) (l .i) _ (l .inv .1) (omega arith) (omega (arith, a .pre)) refl)
 
--- src/lib.rt:272:1
 same-length : tie.Need-same-length Inv-loop μ-loop
-same-length c = ?
+same-length c = long (c .before)
 
--- src/lib.rt:272:1
 returns : tie.Need-returns Inv-loop μ-loop
-returns c = ?
+returns c =
+    let l = c .before .loop in
+    let a = c .before .before in
+    onto-all (a .args .rows .now) (a .args .held .now) (l .held) (l .i) (l .inv .1) (omega arith)
 
 pub copied-spec : {M : Type 1} → statement M
 copied-spec =
