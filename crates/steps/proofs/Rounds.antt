@@ -24,6 +24,23 @@ use Rattle.steps.specs.declared.State.{State}
 use Rattle.steps.proofs.Splits.{living, open-pairs, at-pair, pair-bounds, merged-ready, merged-falls, onward-out, separated-ready, onward-on, separated-falls, separated-lives}
 use Rattle.steps.proofs.Undoing.{merged-becomes, merged-laid, kept-again, trail-room, parted-becomes, parted-laid, left-parted}
 
+-- the pair a, b of the node in l is separated, in z: what is walked from there, and what falls
+pub record Apart (R : ℕ → Rule) (words n : ℕ) (live : Set) (l : Lent) (top a b : ℕ) (t : State) (z : Lent) (t′ : State) : Type 0 where
+  pub enters : (i : ℕ) → i ≡ suc top → Enters words n live z i t′
+  pub left : (l₀ : Lent) (at more : ℕ) → top ≡ at + more → Left words l₀ at more l → Left words l₀ at (more + 1) z
+  pub fewer : open-pairs (nodeIn words n live z) < open-pairs (nodeIn words n live l)
+  pub lives : living (nodeIn words n live z) ≡ living (nodeIn words n live l)
+  pub rest : (best : List ℕ) (r : State) → Comes n t′ best r (within (R n) (t′ .budget) (below n (view (nodeIn words n live z))) (stateOf n (z .best) t′))
+      → Comes n t best r (onward (R n) (t .budget) n (view (nodeIn words n live l)) a b (stateOf n (l .best) t))
+
+-- the walk below the merged graph came back to t′, and the pair is merged back, in y
+pub record Back (R : ℕ → Rule) (words n : ℕ) (live : Set) (l : Lent) (top a b : ℕ) (t : State) (y : Lent) (t′ : State) : Type 0 where
+  pub kept : Kept words l top y
+  pub out : t′ .out ≡ true → Comes n t (y .best) t′ (onward (R n) (t .budget) n (view (nodeIn words n live l)) a b (stateOf n (l .best) t))
+  pub room : (a < 64 * words) × (b < 64 * words) × (top < length (y .trail))
+  pub apart : t′ .out ≡ false → (rows trail : List ℕ) → Parting words (y .rows) (y .trail) top a b rows trail
+      → Apart R words n live l top a b t (lending rows (y .names) (y .best) trail) t′
+
 module _ {words n : ℕ} {live : Set} {l : Lent} {top a b : ℕ} {t : State} (e : Enters words n live l top t)
     (c : pair n (view (nodeIn words n live l)) ≡ some (a, b)) where
   abbrev g : Node
@@ -64,46 +81,36 @@ module _ {words n : ℕ} {live : Set} {l : Lent} {top a b : ℕ} {t : State} (e 
       pub round-fits : Fits (64 * words) (num (d .old)) × Fits (64 * words) (num (d .near))
       round-fits = (m .rows-are .old-fits, m .rows-are .near-fits)
 
-      pub round-out : t′ .out ≡ true → Comes n t (x .best) t′ (onward (R n) (t .budget) n (view g) a b (stateOf n (l .best) t))
-      round-out = onward-out (64 * words) g a b (e .ready .held) c R (l .best) t (nodeIn words n fewer mixed) becomes (x .best) t′ (en .comes)
-
       module _ {rows″ names″ : List ℕ} (un : Unmerging words (x .rows) (x .names) a b d rows″ names″) where
         abbrev y : Lent
         y = lending rows″ names″ (x .best) (x .trail)
 
-        pub round-kept : Kept words l top y
-        round-kept = kept-again words n live l top a b at-g (e .laid) rows′ names′ d m fewer w x (en .kept) rows″ names″ un
+        again : Kept words l top y
+        again = kept-again words n live l top a b at-g (e .laid) rows′ names′ d m fewer w x (en .kept) rows″ names″ un
 
-        -- to separate
-        pub round-separates : (a < 64 * words) × (b < 64 * words) × (top < length (x .trail))
-        round-separates = (round-pair .0, round-pair .1, trail-room words n live l top a b at-g (e .laid) y round-kept)
+        abbrev z : List ℕ → List ℕ → Lent
+        z rows trail = lending rows names″ (x .best) trail
 
-        module _ (o : t′ .out ≡ false) {rows trail : List ℕ} (part : Parting words rows″ (x .trail) top a b rows trail) where
-          abbrev z : Lent
-          z = lending rows names″ (x .best) trail
+        apart : t′ .out ≡ false → (rows trail : List ℕ) → Parting words rows″ (x .trail) top a b rows trail
+            → Apart R words n live l top a b t (lending rows names″ (x .best) trail) t′
+        apart o rows trail part = record {
+          enters = λ i f. record {
+            ready = separated-ready (64 * words) g a b (e .ready .held) c R (l .best) t (nodeIn words n fewer mixed) becomes (x .best) t′ (en .comes) o (nodeIn words n live (z rows trail)) parted;
+            laid = parted-laid words n live l top a b at-g (e .laid) y again rows trail part i f;
+          };
+          left = left-parted words n live l top a b at-g (e .laid) y again rows trail part;
+          fewer = separated-falls (64 * words) g a b (e .ready .held) c (nodeIn words n live (z rows trail)) parted;
+          lives = separated-lives (64 * words) g a b (e .ready .held) c (nodeIn words n live (z rows trail)) parted;
+          rest = onward-on (64 * words) g a b (e .ready .held) c R (l .best) t (nodeIn words n fewer mixed) becomes (x .best) t′ (en .comes) o (nodeIn words n live (z rows trail)) parted;
+        }
+          where
+            parted : BecomesAt (64 * words) g (nodeIn words n live (lending rows names″ (x .best) trail)) (separate a b (view g))
+            parted = parted-becomes words n live l top a b at-g (e .laid) y again rows trail part
 
-          parted : BecomesAt (64 * words) g (nodeIn words n live z) (separate a b (view g))
-          parted = parted-becomes words n live l top a b at-g (e .laid) y round-kept rows trail part
-
-          pub round-next : (i : ℕ) → i ≡ suc top → Enters words n live z i t′
-          round-next i f = record {
-            ready = separated-ready (64 * words) g a b (e .ready .held) c R (l .best) t (nodeIn words n fewer mixed) becomes (x .best) t′
-                (en .comes) o (nodeIn words n live z) parted;
-            laid = parted-laid words n live l top a b at-g (e .laid) y round-kept rows trail part i f;
-          }
-
-          pub round-left : (l₀ : Lent) (at more : ℕ) → top ≡ at + more → Left words l₀ at more l → Left words l₀ at (more + 1) z
-          round-left l₀ at more f left = left-parted words n live l top a b at-g (e .laid) y round-kept rows trail part l₀ at more f left
-
-          pub round-open : open-pairs (nodeIn words n live z) < open-pairs g
-          round-open = separated-falls (64 * words) g a b (e .ready .held) c (nodeIn words n live z) parted
-
-          pub round-lives : living (nodeIn words n live z) ≡ living g
-          round-lives = separated-lives (64 * words) g a b (e .ready .held) c (nodeIn words n live z) parted
-
-          -- what the walk below the separated graph comes to is what is left of the whole
-          pub round-rest : (best : List ℕ) (r : State) → Comes n t′ best r (within (R n) (t′ .budget) (below n (view (nodeIn words n live z))) (stateOf n (x .best) t′))
-              → Comes n t best r (onward (R n) (t .budget) n (view g) a b (stateOf n (l .best) t))
-          round-rest =
-              onward-on (64 * words) g a b (e .ready .held) c R (l .best) t (nodeIn words n fewer mixed) becomes (x .best) t′ (en .comes) o
-              (nodeIn words n live z) parted
+        pub round-back : Back R words n live l top a b t y t′
+        round-back = record {
+          kept = again;
+          out = onward-out (64 * words) g a b (e .ready .held) c R (l .best) t (nodeIn words n fewer mixed) becomes (x .best) t′ (en .comes);
+          room = (round-pair .0, round-pair .1, trail-room words n live l top a b at-g (e .laid) y again);
+          apart = apart;
+        }

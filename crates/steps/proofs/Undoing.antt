@@ -15,7 +15,7 @@ use Rattle.wide.specs.Form.{Form, held}
 use Rattle.wide.specs.declared.Set.{Set}
 use Rattle.wide.proofs.FormLaws.{form-long}
 use Rattle.graphs.specs.Graph.{missing, merge, separate}
-use Rattle.graphs.specs.Held.{view}
+use Rattle.graphs.specs.Held.{HeldAt, view}
 use Rattle.graphs.specs.Acts.{PairAt, BecomesAt, Renamed}
 use Rattle.graphs.specs.declared.Node.{Node}
 use Rattle.graphs.proofs.SplitLaws.{separate-is}
@@ -36,6 +36,11 @@ form-few (inr f) = omega (arith, f .words-four)
 
 pub form-same-long : {words : ℕ} {a b : List ℕ} → Form words a → Form words b → length b ≡ length a
 form-same-long f g = sym (form-long g .0) ∙ form-long f .0
+
+-- names and best have a place for each entry
+pub laid-finds : (words n : ℕ) (live : Set) (l : Lent) (at : ℕ) → Laid words n live l at → HeldAt (64 * words) (nodeIn words n live l)
+    → (n ≤ length (l .names)) × (n ≤ length (l .best)) × (n ≤ 256)
+laid-finds words n live l at laid held = (omega (arith, held .few, laid .named), laid .bytes, omega (arith, held .few, form-few (laid .form)))
 
 -- ---- nothing is changed but the best; nothing is on the trail yet
 
