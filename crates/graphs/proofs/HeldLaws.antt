@@ -16,7 +16,7 @@ use Rattle.sets.specs.Set.{has, size, IsWith, IsWithout, IsJoin, IsMeet, IsLess
 use Rattle.sets.proofs.TestLaws.{and-r, and-t, and-true, and-turn, or-false, T→true, T→false, T-ext, eqb-same, eqb-turn}
 use Rattle.sets.proofs.MemberLaws.{count-agree, count-narrow, members-count, members-agree, members-narrow}
 use Rattle.clashes.specs.Divisions.{groups}
-use Rattle.clashes.specs.Matrix.{matrix, Sound}
+use Rattle.clashes.specs.Matrix.{matrix, SoundUpTo}
 use Rattle.clashes.proofs.MatrixLaws.{sound-valid}
 use Rattle.graphs.specs.Graph.{Graph, live, vertices, merge, separate, pair, missing, grouping, graph}
 use Rattle.graphs.specs.Good.{Live, Good, Merged, Parted}
@@ -108,17 +108,18 @@ module _ {cap : ℕ} (h r : Node) (u v : ℕ) (p : PairAt cap h u v) where
 
 -- ---- the root
 
-module _ (cap : ℕ) (rows : List ℕ) (r : Node) (s : Sound rows) (few : length rows ≤ cap) (e : r .n ≡ length rows) (below : IsBelow (length rows) (r .live))
-    (held : (x : ℕ) → getD (r .rows) x zero ≡ cond (ltb x (length rows)) (getD rows x zero) zero)
+module _ (cap : ℕ) {most : ℕ} (rows : List ℕ) (r : Node) (s : SoundUpTo most rows) (few : length rows ≤ cap) (e : r .n ≡ length rows) (below : IsBelow (length rows) (r .live))
+    (held : (x : ℕ) → x < length rows → getD (r .rows) x zero ≡ getD rows x zero)
     (names : (i : ℕ) → getD (r .names) i zero ≡ cond (ltb i (length rows)) i zero) (rows-long : length (r .rows) ≡ cap) (names-long : length (r .names) ≡ cap) where
   root-adj : (x y : ℕ) → view r .adj x y ≡ graph (length rows) (matrix rows) .adj x y
   root-adj x y =
       ap₂ (λ (a b : Bool). a && (b && has (getD (r .rows) x zero) y)) (below x) (below y)
-      ∙ ap (λ (m : ℕ). ltb x (length rows) && (ltb y (length rows) && has m y)) (held x) ∙ go (ltb x (length rows))
+      ∙ go (ltb x (length rows)) (λ t. ap (λ (m : ℕ). has m y) (held x (ltb→lt x (length rows) t)))
     where
-      go : (b : Bool) → (b && (ltb y (length rows) && has (cond b (getD rows x zero) zero) y)) ≡ (b && (ltb y (length rows) && has (getD rows x zero) y))
-      go true = refl
-      go false = refl
+      go : (b : Bool) → (T b → has (getD (r .rows) x zero) y ≡ has (getD rows x zero) y)
+          → (b && (ltb y (length rows) && has (getD (r .rows) x zero) y)) ≡ (b && (ltb y (length rows) && has (getD rows x zero) y))
+      go true h = ap (λ (t : Bool). true && (ltb y (length rows) && t)) (h tt)
+      go false h = refl
 
   pub root-is : RootAt cap rows r
   root-is = record {
