@@ -5,3 +5,4 @@ mod Compare
 mod Undoing
 pub mod Copying
 mod Rounds
+mod Starting

@@ -20,20 +20,21 @@
 --   Left words l at k l′  : so they are but for the rows, which are as they were without the k pairs of the trail from at on
 --   Enters, Entered R     : the walk may enter the node held in l; by the rule R it came back from there
 --   Splits, Onward R      : the same where the node is entered already and is split at u and v
---   Lends, Walked R       : a list's rows, and room for a walk over them: rows and names of zeros; by the rule R the walk over the list came to its end
+--   Lends, Lays           : a list's rows, and room for a walk over them, names of zeros; the rows stand there and every entry is alone
+--   Walked R n rows m ..  : by the rule R the walk over this list with the budget m came to best and r
 --
 -- Assumes nothing.
 use mathlib.Core.Path.{_≡_}
 use mathlib.Core.Bool.{true, false, cond}
 use mathlib.Core.Option.{Option, none, some}
-use mathlib.Core.List.{List}
+use mathlib.Core.List.{List, _++_}
 use Prim.Native.Nat.{ℕ, zero, _+_, _*_, _≤_, _<_}
 use lib.Dec.{ltb}
-use lib.ListN.{take, length, getD, set, replicate}
+use lib.ListN.{take, drop, length, getD, set, replicate}
 use Rattle.wide.specs.Words.{num, rowsOf}
 use Rattle.wide.specs.Form.{Form, held}
 use Rattle.wide.specs.declared.Set.{Set}
-use Rattle.clashes.specs.Divisions.{groups}
+use Rattle.clashes.specs.Divisions.{groups, alone}
 use Rattle.clashes.specs.Matrix.{matrix, SoundUpTo}
 use Rattle.graphs.specs.Graph.{Graph, pair, missing}
 use Rattle.graphs.specs.Held.{HeldAt, view, node}
@@ -168,10 +169,14 @@ module _ (words : ℕ) where
     pub sound : SoundUpTo (64 * words) (rowsOf words n rows)
     pub long : length rows ≡ n * words
     pub form : Form words (l .rows)
-    pub clear : l .rows ≡ replicate (length (l .rows)) zero
     pub unnamed : l .names ≡ replicate (64 * words) zero
     pub bytes : n ≤ length (l .best)
     pub room : n * n ≤ 2 * length (l .trail) + n
 
-pub record Walked (R : Rule) (n : ℕ) (rows : List ℕ) (m : ℕ) (best : List ℕ) (r : State) : Type 0 where
-  pub comes : Comes n (begun n m) best r (within R m (zykov n (matrix rows)) (start n))
+pub record Lays (n : ℕ) (rows held names best held′ names′ best′ : List ℕ) : Type 0 where
+  pub rows-are : held′ ≡ rows ++ drop (length rows) held
+  pub names-are : names′ ≡ alone n ++ drop n names
+  pub best-is : best′ ≡ alone n ++ drop n best
+
+abbrev pub Walked : Rule → ℕ → List ℕ → ℕ → List ℕ → State → Type 0
+Walked R n rows m best r = Comes n (begun n m) best r (within R m (zykov n (matrix rows)) (start n))

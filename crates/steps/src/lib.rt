@@ -23,8 +23,8 @@ ghost use Rattle.wide.specs.Form.{Form, Fits};
 ghost use Rattle.undo.specs.Forest.{Forest};
 ghost use Rattle.clashes.specs.Divisions.{alone as aloneOf};
 ghost use Rattle.bounds.specs.Names.{mycielskian};
-ghost use Rattle.zykov.specs.Walk.{become, compare, bounded, plain as plainRule};
-ghost use Rattle.steps.specs.Going.{lending, begun, counted as countedOf, Finds, Merging, Unmerging, Parting, Enters, Entered, Splits, Onward, Lends, Walked};
+ghost use Rattle.zykov.specs.Walk.{become, compare, bounded, plain};
+ghost use Rattle.steps.specs.Going.{lending, begun, counted as countedOf, Finds, Merging, Unmerging, Parting, Enters, Entered, Splits, Onward, Lends, Lays, Walked};
 
 // A walk on its way: the number of groups of the best division, the nodes entered, the complete graphs met, and the budget of nodes; out says that it
 // would have had to enter more.
@@ -112,7 +112,7 @@ fn separate_at(words: usize, rows: &mut [u64], trail: &mut [u16], top: usize, u:
 }
 
 // The node of these parts is entered. Rows and names are as they were when it is done, and so is the trail below at.
-pub fn enter(
+fn enter(
     words: usize,
     n: usize,
     live: Set,
@@ -224,7 +224,7 @@ fn compared(n: usize, live: Set, names: &[u8], best: &mut [u8], s: State) -> Sta
 
 // The plain walk below the node of these parts: it goes by itself to the merged graph, which has one vertex fewer, and loops on separations. Rows and
 // names are as they were when it is done, and so is the trail below at.
-pub fn explore(
+fn explore(
     words: usize,
     n: usize,
     live: Set,
@@ -236,7 +236,7 @@ pub fn explore(
     s: State,
 ) -> State
     requires { ⌜ Enters words n live (lending (now rows) (now names) (now best) (now trail)) at s ⌝ }
-    ensures { λ r. ⌜ Entered words (plainRule n) n live (lending (now (rows .entry)) (now (names .entry)) (now (best .entry)) (now (trail .entry))) at s (lending (now (rows .exit)) (now (names .exit)) (now (best .exit)) (now (trail .exit))) r ⌝ }
+    ensures { λ r. ⌜ Entered words (plain n) n live (lending (now (rows .entry)) (now (names .entry)) (now (best .entry)) (now (trail .entry))) at s (lending (now (rows .exit)) (now (names .exit)) (now (best .exit)) (now (trail .exit))) r ⌝ }
 {
     let mut t = s;
     let mut more: usize = 0;
@@ -282,7 +282,7 @@ fn copied(rows: &[u64], held: &mut [u64])
 
 // Each of n entries has its own number.
 fn alone(n: usize, out: &mut [u8])
-    requires { ⌜ (n ≤ 256) × (n ≤ length (now out)) ⌝ }
+    requires { ⌜ (n ≤ length (now out)) × (n ≤ 256) ⌝ }
     ensures { λ r. ⌜ now (out .exit) ≡ aloneOf n ++ drop n (now (out .entry)) ⌝ }
 {
     let mut i: usize = 0;
@@ -292,8 +292,19 @@ fn alone(n: usize, out: &mut [u8])
     }
 }
 
-// The bounded walk over a list of n entries, in the room that is lent: every entry stands for itself and is alone, then the root is entered.
-pub fn fewest(
+// A list's rows are laid in the room that is lent, and every entry stands for itself and is alone.
+fn lay(n: usize, rows: &[u64], held: &mut [u64], names: &mut [u8], best: &mut [u8])
+    requires { ⌜ length (now rows) ≤ length (now held) ⌝ }
+    requires { ⌜ (n ≤ length (now names)) × (n ≤ length (now best)) × (n ≤ 256) ⌝ }
+    ensures { λ r. ⌜ Lays n (now (rows .entry)) (now (held .entry)) (now (names .entry)) (now (best .entry)) (now (held .exit)) (now (names .exit)) (now (best .exit)) ⌝ }
+{
+    copied(rows, held);
+    alone(n, names);
+    alone(n, best);
+}
+
+// The bounded walk over a list of n entries, in the room that is lent.
+pub fn bounded_walk(
     words: usize,
     n: usize,
     rows: &[u64],
@@ -306,14 +317,12 @@ pub fn fewest(
     requires { ⌜ Lends words n (now rows) (lending (now held) (now names) (now best) (now trail)) ⌝ }
     ensures { λ r. ⌜ Walked (bounded n mycielskian) n (rowsOf words n (now (rows .entry))) budget (now (best .exit)) r ⌝ }
 {
-    copied(rows, held);
-    alone(n, names);
-    alone(n, best);
+    lay(n, rows, held, names, best);
     enter(words, n, below(n), held, names, best, trail, 0, start(n, budget))
 }
 
 // The plain walk, likewise.
-pub fn plain(
+pub fn plain_walk(
     words: usize,
     n: usize,
     rows: &[u64],
@@ -324,10 +333,8 @@ pub fn plain(
     budget: u64,
 ) -> State
     requires { ⌜ Lends words n (now rows) (lending (now held) (now names) (now best) (now trail)) ⌝ }
-    ensures { λ r. ⌜ Walked (plainRule n) n (rowsOf words n (now (rows .entry))) budget (now (best .exit)) r ⌝ }
+    ensures { λ r. ⌜ Walked (plain n) n (rowsOf words n (now (rows .entry))) budget (now (best .exit)) r ⌝ }
 {
-    copied(rows, held);
-    alone(n, names);
-    alone(n, best);
+    lay(n, rows, held, names, best);
     explore(words, n, below(n), held, names, best, trail, 0, start(n, budget))
 }

@@ -23,19 +23,19 @@ long : (l : tie.At-loop Inv-loop μ-loop) → length (l .loop .out) ≡ length (
 long l =
     let a = l .before in
     onto-long (alone (a .args .n)) (a .args .out .now) (l .loop .out) (l .loop .i) (l .loop .inv .1) (omega (arith, l .loop .inv .0, many (a .args .n)))
-    (omega (arith, l .loop .inv .0, a .pre .1))
+    (omega (arith, l .loop .inv .0, a .pre .0))
 
 loop-holds : tie.Need-loop-holds Inv-loop μ-loop
 loop-holds c = (omega arith, refl)
 
 cast-out : tie.Need-cast-out Inv-loop μ-loop
-cast-out c = omega (arith, c .before .before .pre .0)
+cast-out c = omega (arith, c .before .before .pre .1)
 
 slice-write-out : tie.Need-slice-write-out Inv-loop μ-loop
-slice-write-out c = omega (arith, long (c .before), c .before .before .pre .1)
+slice-write-out c = omega (arith, long (c .before), c .before .before .pre .0)
 
 add-i : tie.Need-add-i Inv-loop μ-loop
-add-i c = omega (arith, c .before .before .pre .0)
+add-i c = omega (arith, c .before .before .pre .1)
 
 loop-less : tie.Need-loop-less Inv-loop μ-loop
 loop-less c = omega arith
@@ -45,7 +45,7 @@ loop-again c =
     let l = c .before .loop in
     let a = c .before .before in (
       omega arith,
-      onto-next (alone (a .args .n)) (a .args .out .now) (l .out) (l .i) _ (l .inv .1) (omega (arith, many (a .args .n))) (omega (arith, a .pre .1))
+      onto-next (alone (a .args .n)) (a .args .out .now) (l .out) (l .i) _ (l .inv .1) (omega (arith, many (a .args .n))) (omega (arith, a .pre .0))
           (sym (getD-table (λ i. i) (a .args .n) 0 (l .i) (omega arith))),
     )
 
