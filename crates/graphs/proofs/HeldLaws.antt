@@ -53,6 +53,9 @@ module _ {cap : ℕ} (h : Node) (k : HeldAt cap h) where
   pub live-below : (x : ℕ) → T (has (h .live) x) → x < h .n
   live-below x t = held-live x t .below
 
+  pub live-fits : (x : ℕ) → T (has (h .live) x) → x < cap
+  live-fits x t = omega (arith, live-below x t, k .few)
+
   pub held-beyond : (x : ℕ) → h .n ≤ x → ¬ T (has (h .live) x)
   held-beyond x b t = let c = live-below x t in let z : ⊥ = omega arith in z
 

@@ -134,7 +134,8 @@ pub fn separate_rows(rows: &mut [u64; 64], u: usize, v: usize)
 }
 
 // The leading pair after u with each vertex of apart: near are u's neighbours. Pair by pair.
-fn by_pairs(rows: &[u64; 64], u: usize, near: u64, apart: u64, best: Lead) -> Lead
+fn by_pairs(rows: &[u64], u: usize, near: u64, apart: u64, best: Lead) -> Lead
+    requires { ⌜ length (now rows) ≡ 64 ⌝ }
     ensures { λ r. ⌜ r ≡ over (lead (shared (now (rows .entry)) near) u) best (members (member apart) 64) ⌝ }
 {
     let mut best = best;
@@ -156,7 +157,8 @@ fn by_pairs(rows: &[u64; 64], u: usize, near: u64, apart: u64, best: Lead) -> Le
 
 // The same. A row with fewer neighbours than would lead is passed over. Where apart is small beside near, pairs cost less than counts; else the counts
 // tell who shares most, and all others are passed over.
-fn led(rows: &[u64; 64], u: usize, near: u64, apart: u64, best: Lead) -> Lead
+fn led(rows: &[u64], u: usize, near: u64, apart: u64, best: Lead) -> Lead
+    requires { ⌜ length (now rows) ≡ 64 ⌝ }
     requires { ⌜ Mutual (now rows) near apart ⌝ }
     ensures { λ r. ⌜ r ≡ over (lead (shared (now (rows .entry)) near) u) best (members (member apart) 64) ⌝ }
 {
@@ -194,7 +196,7 @@ fn hopeful(degrees: Counts, before: usize, need: usize, left: u64) -> u64
 
 // Of the non-adjacent live u < v the pair with most common neighbours, then smallest u, then smallest v. Who has fewer neighbours than would lead is
 // passed over, as u and as v.
-pub fn choose_among(live: u64, rows: &[u64; 64]) -> Choice
+pub fn choose_among(live: u64, rows: &[u64]) -> Choice
     requires { ⌜ Holds live (now rows) ⌝ }
     ensures { λ r. ⌜ Each live (now (rows .entry)) (λ h. choiceOf r ≡ pair (h .n) (view h)) ⌝ }
 {

@@ -17,7 +17,7 @@ pub fn reaches(words: usize, live: Set, rows: &[u64], best: usize) -> bool
     requires { ⌜ HoldsAt (64 * words) (num live) (held words (now rows)) ⌝ }
     ensures { λ r. ⌜ EachAt (64 * words) (num live) (held words (now (rows .entry))) (λ h. r ≡ leb best (mycielskian (h .n) (view h))) ⌝ }
 {
-    if words == 1 {
+    if words == 1 { // the live set is its lowest word
         return bounds::reaches(live.a, rows, best);
     }
     bounds::reaches_wide(live, rows, best)
@@ -29,7 +29,7 @@ pub fn choose_among(words: usize, live: Set, rows: &[u64]) -> Choice
     requires { ⌜ HoldsAt (64 * words) (num live) (held words (now rows)) ⌝ }
     ensures { λ r. ⌜ EachAt (64 * words) (num live) (held words (now (rows .entry))) (λ h. choiceOf r ≡ pair (h .n) (view h)) ⌝ }
 {
-    if words == 1 {
+    if words == 1 { // and so it is here
         return graphs::choose_among(live.a, rows);
     }
     wide_pairs::choose_among(live, rows)

@@ -59,6 +59,10 @@ pub one-or-four : {words : ℕ} {rows : List ℕ} → Form words rows → (words
 one-or-four (inl o) = inl (o .words-one)
 one-or-four (inr f) = inr (f .words-four)
 
+pub words-few : {words : ℕ} {rows : List ℕ} → Form words rows → words ≤ 4
+words-few (inl o) = omega (arith, o .words-one)
+words-few (inr f) = omega (arith, f .words-four)
+
 -- as many numbers
 pub form-same : {words : ℕ} {rows r : List ℕ} → Form words rows → length r ≡ length rows → Form words r
 form-same (inl o) e = inl (record { words-one = o .words-one; long = e ∙ o .long })

@@ -1,0 +1,2 @@
+-- Laws of what is changed in place and changed back.
+pub mod LinkLaws
