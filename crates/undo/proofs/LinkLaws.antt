@@ -1,19 +1,20 @@
 -- u gets into rows, or out of them, of a set that is gone through word by word. Assumes nothing.
-use mathlib.Core.Path.{_≡_, refl, sym, ap, ap₂, _∙_, subst}
+use mathlib.Core.Path.{_≡_, refl, sym, ap, _∙_, subst}
 use mathlib.Core.Bool.{Bool, true, false, not, _&&_, _||_, cond}
 use mathlib.Core.List.{List, [], _∷_}
-use Prim.Native.Nat.{ℕ, zero, suc, _+_, _-_, _^_, _≤_, _<_}
+use Prim.Native.Nat.{ℕ, zero, _+_, _-_, _*_, _^_, _≤_, _<_}
 use native.Mathlib.Decide.{decLt}
 use native.Mathlib.Omega.{arith}
 use lib.Dec.{T, eqb, leb, ltb, eqb→eq}
-use lib.ListN.{length, getD}
+use lib.ListN.{getD}
 use borrow.Author.Tests.{lt-ltb, le-ltb, le-leb, lt-leb, ne-eqb}
-use Rattle.sets.specs.Set.{has, IsWithout, IsLowest}
-use Rattle.sets.proofs.TestLaws.{or-false, or-assoc, T-ext, T→true, eqb-of}
+use Rattle.sets.specs.Set.{has, IsWithout}
+use Rattle.sets.proofs.TestLaws.{or-false, and-true, eqb-turn}
 use Rattle.sets.proofs.SetLaws.{has-cat, has-none, has-beyond}
 use Rattle.wide.specs.Words.{wide, num}
-use Rattle.wide.specs.Form.{Marked, Unmarked, Fits}
+use Rattle.wide.specs.Form.{One, Marked, Unmarked, Fits}
 use Rattle.wide.specs.declared.Set.{Set}
+use Rattle.wide.proofs.WideLaws.{Fit, none, more, eqb-shift}
 use Rattle.wide.proofs.FormLaws.{low-word}
 use Rattle.graphs.specs.Acts.{Linked}
 use Rattle.undo.specs.Back.{wordHas, LinkedBy, UnlinkedBy, Unlinked}
@@ -49,9 +50,7 @@ word-next left w next from x t h = go (decLt x from)
     here false false f = refl
 
     shift : from ≤ x → eqb (from + w) x ≡ eqb w (x - from)
-    shift b =
-        T-ext (eqb (from + w) x) (eqb w (x - from)) (λ e. eqb-of w (x - from) (let z = eqb→eq (from + w) x e in omega arith))
-        (λ e. eqb-of (from + w) x (let z = eqb→eq w (x - from) e in omega arith))
+    shift b = eqb-turn (from + w) x ∙ sym (eqb-shift x from w b) ∙ eqb-turn (x - from) w
 
     go : Dec (x < from) → wordHas left from x ≡ (eqb (from + w) x || wordHas next from x)
     go (yes b) = rw (lt-leb from x b, ne-eqb (from + w) x (λ e. absurd (let z : ⊥ = omega arith in z)))
@@ -82,11 +81,7 @@ pub linked-done : (a : Bool) (left from x u y : ℕ) → left ≡ 0 → a ≡ (a
 linked-done a left from x u y e = rw (word-none left from x e) (sym (or-false a))
 
 pub unlinked-done : (a : Bool) (left from x u y : ℕ) → left ≡ 0 → a ≡ (a && not (wordHas left from x && eqb u y))
-unlinked-done a left from x u y e = rw (word-none left from x e) (yes-only a)
-  where
-    yes-only : (b : Bool) → b ≡ (b && not false)
-    yes-only true = refl
-    yes-only false = refl
+unlinked-done a left from x u y e = rw (word-none left from x e) (sym (and-true a))
 
 -- ---- word after word
 
@@ -95,18 +90,15 @@ abbrev pub wordsHave : List ℕ → ℕ → ℕ → Bool
 wordsHave [] from x = false
 wordsHave (s ∷ l) from x = wordHas s from x || wordsHave l (from + 64) x
 
-pub data AllWords : List ℕ → Type 0 where
-  none : AllWords []
-  more : {x : ℕ} {l : List ℕ} → x < 2 ^ 64 → AllWords l → AllWords (x ∷ l)
-
-pub words-have : {l : List ℕ} → AllWords l → (from i : ℕ) → wordsHave l from i ≡ (leb from i && has (wide l) (i - from))
+pub words-have : {n : ℕ} {l : List ℕ} → Fit n l → (from i : ℕ) → wordsHave l from i ≡ (leb from i && has (wide l) (i - from))
 unfolding wide
 words-have none from i = rw (has-none (i - from)) (sym (and-no (leb from i)))
-words-have (more {x} {l} b f) from i =
+words-have (more {n} {x} {l} b f) from i =
     rw (words-have f (from + 64) i, has-cat 64 (wide l) x (i - from) b) (go (decLt i from) (decLt i (from + 64)))
   where
     go : Dec (i < from) → Dec (i < from + 64)
-        → (wordHas x from i || (leb (from + 64) i && has (wide l) (i - (from + 64)))) ≡ (leb from i && cond (ltb (i - from) 64) (has x (i - from)) (has (wide l) (i - from - 64)))
+        → (wordHas x from i || (leb (from + 64) i && has (wide l) (i - (from + 64))))
+        ≡ (leb from i && cond (ltb (i - from) 64) (has x (i - from)) (has (wide l) (i - from - 64)))
     go (yes p) q = rw (lt-leb from i p, lt-leb (from + 64) i (omega arith))
     go (no p) (yes q) =
         rw (le-leb from i (omega arith), lt-leb (from + 64) i q, lt-ltb (i - from) 64 (omega arith)) (or-false (has x (i - from)))
@@ -128,10 +120,12 @@ unlinked-both {rows} {m} {r} {u} {p} {q} a b = record {
 }
 
 pub linked-as : {rows r : List ℕ} {u : ℕ} {p : ℕ → Bool} (s : ℕ) → ((x : ℕ) → p x ≡ has s x) → LinkedBy rows u p r → Linked rows u s r
-linked-as {rows} {r} {u} {p} s e a = record { long = a .long; is = λ x y. a .is x y ∙ ap (λ (t : Bool). has (getD rows x zero) y || (t && eqb u y)) (e x) }
+linked-as {rows} {r} {u} {p} s e a =
+    record { long = a .long; is = λ x y. a .is x y ∙ ap (λ (t : Bool). has (getD rows x zero) y || (t && eqb u y)) (e x) }
 
 pub unlinked-as : {rows r : List ℕ} {u : ℕ} {p : ℕ → Bool} (s : ℕ) → ((x : ℕ) → p x ≡ has s x) → UnlinkedBy rows u p r → Unlinked rows u s r
-unlinked-as {rows} {r} {u} {p} s e a = record { long = a .long; is = λ x y. a .is x y ∙ ap (λ (t : Bool). has (getD rows x zero) y && not (t && eqb u y)) (e x) }
+unlinked-as {rows} {r} {u} {p} s e a =
+    record { long = a .long; is = λ x y. a .is x y ∙ ap (λ (t : Bool). has (getD rows x zero) y && not (t && eqb u y)) (e x) }
 
 -- a set of one word, and one of four
 from-zero : (m x : ℕ) → (leb 0 x && has m (x - 0)) ≡ has m x
@@ -146,3 +140,23 @@ unfolding num
 has-four-words s a b c d x =
     ap (λ (t : Bool). wordHas (s .a) 0 x || (wordHas (s .b) 64 x || (wordHas (s .c) 128 x || t))) (sym (or-false (wordHas (s .d) 192 x)))
     ∙ words-have (more a (more b (more c (more d none)))) 0 x ∙ from-zero (wide (s .a ∷ s .b ∷ s .c ∷ s .d ∷ [])) x
+
+-- the first word's rows, where there is one; where there are four, each word's after the other's
+module _ {words : ℕ} {lent : List ℕ} (s : Set) (o : One words lent) (f : Fits (64 * words) (num s)) where
+  only : (x : ℕ) → wordHas (s .a) 0 x ≡ has (num s) x
+  only = has-one-word s (subst (λ (w : ℕ). Fits (64 * w) (num s)) (o .words-one) f)
+
+  pub linked-one : {rows r : List ℕ} {u : ℕ} → LinkedBy rows u (wordHas (s .a) 0) r → Linked rows u (num s) r
+  linked-one a = linked-as (num s) only a
+
+  pub unlinked-one : {rows r : List ℕ} {u : ℕ} → UnlinkedBy rows u (wordHas (s .a) 0) r → Unlinked rows u (num s) r
+  unlinked-one a = unlinked-as (num s) only a
+
+module _ (s : Set) (a : s .a < 2 ^ 64) (b : s .b < 2 ^ 64) (c : s .c < 2 ^ 64) (d : s .d < 2 ^ 64) {rows m1 m2 m3 r : List ℕ} {u : ℕ} where
+  pub linked-four : LinkedBy rows u (wordHas (s .a) 0) m1 → LinkedBy m1 u (wordHas (s .b) 64) m2 → LinkedBy m2 u (wordHas (s .c) 128) m3
+      → LinkedBy m3 u (wordHas (s .d) 192) r → Linked rows u (num s) r
+  linked-four e f g h = linked-as (num s) (has-four-words s a b c d) (linked-both e (linked-both f (linked-both g h)))
+
+  pub unlinked-four : UnlinkedBy rows u (wordHas (s .a) 0) m1 → UnlinkedBy m1 u (wordHas (s .b) 64) m2 → UnlinkedBy m2 u (wordHas (s .c) 128) m3
+      → UnlinkedBy m3 u (wordHas (s .d) 192) r → Unlinked rows u (num s) r
+  unlinked-four e f g h = unlinked-as (num s) (has-four-words s a b c d) (unlinked-both e (unlinked-both f (unlinked-both g h)))

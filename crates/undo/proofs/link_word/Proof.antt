@@ -1,7 +1,8 @@
--- `undo::link_word` meets its contract. The invariant: rows so far, and u in the rows of what is left, are the rows and u in the rows of all of s. Assumes nothing.
+-- `undo::link_word` meets its contract. The invariant: rows so far, with u in the rows of what is left, are the rows with u in the rows of all of s.
+-- Assumes nothing.
 use mathlib.Core.Path.{_≡_, refl, sym, _∙_}
 use mathlib.Core.Bool.{_&&_, _||_}
-use Prim.Native.Nat.{ℕ, _+_, _*_, _<_, _^_}
+use Prim.Native.Nat.{ℕ, _*_}
 use native.Mathlib.Omega.{arith}
 use lib.Dec.{eqb}
 use lib.ListN.{getD}
@@ -18,7 +19,9 @@ use Rattle.undo.proofs.link_word.Tie as tie
 
 abbrev Inv-loop : tie.InvT-loop
 Inv-loop words rows₀ u s from left₀ rows left =
-    Form words rows × ((x y : ℕ) → (has (getD (held words rows) x 0) y || (wordHas left from x && eqb u y)) ≡ (has (getD (held words rows₀) x 0) y || (wordHas s from x && eqb u y)))
+    Form words rows
+    × ((x y : ℕ)
+    → (has (getD (held words rows) x 0) y || (wordHas left from x && eqb u y)) ≡ (has (getD (held words rows₀) x 0) y || (wordHas s from x && eqb u y)))
 
 abbrev μ-loop : tie.MeasureT-loop
 μ-loop words rows₀ u s from left₀ rows left = size 64 left
@@ -52,12 +55,12 @@ loop-again c =
     let l = c .before .before .before .before .before .before .before .loop in
     let low = c .before .before .before .before .before .lowest in
     let rest = c .before .before .before .before .rest in
-    let a = c .before .before .before .before .before .before .before .before .before .args in
-    (
-      c .before .before .mark .ensures .0,
+    let done = c .before .before .mark .ensures in
+    let a = c .before .before .before .before .before .before .before .before .before .args in (
+      done .0,
       λ x y.
-          linked-next (held (a .words) (l .rows)) _ (a .u) (l .left) (low .result) (rest .result) (a .from) (low .ensures .member) (rest .ensures (low .result) (low .ensures))
-          (c .before .before .mark .ensures .1) x y ∙ l .inv .1 x y,
+          linked-next (held (a .words) (l .rows)) _ (a .u) (l .left) (low .result) (rest .result) (a .from) (low .ensures .member)
+          (rest .ensures (low .result) (low .ensures)) (done .1) x y ∙ l .inv .1 x y,
     )
 
 same-length : tie.Need-same-length Inv-loop μ-loop
@@ -66,8 +69,7 @@ same-length c = sym (form-long (c .before .loop .inv .0) .0) ∙ form-long (c .b
 returns : tie.Need-returns Inv-loop μ-loop
 returns c =
     let l = c .before .loop in
-    let a = c .before .before .before .args in
-    (
+    let a = c .before .before .before .args in (
       l .inv .0,
       record {
         long = rows-long (a .words) (64 * a .words) (l .rows) ∙ sym (rows-long (a .words) (64 * a .words) (a .rows .now));
