@@ -24,7 +24,8 @@ use Rattle.graphs.proofs.HeldLaws.{merged-missing, separated-missing}
 use Rattle.undo.specs.Back.{Undone, Separates, isMet, Restored}
 use Rattle.undo.specs.Forest.{Forest, called}
 use Rattle.undo.specs.declared.Undo.{Undo}
-use Rattle.undo.proofs.BackLaws.{undone-same, restored-same, restored-none, restored-next, met-same}
+use Rattle.undo.proofs.BackLaws.{undone-same}
+use Rattle.undo.proofs.TrailLaws.{restored-same, restored-none, restored-next, met-same}
 use Rattle.undo.proofs.ForestLaws.{called-root, forest-merged, renamed-is, names-back}
 use Rattle.steps.specs.Going.{Lent, lending, nodeIn, Merging, Unmerging, Parting, Laid, Stays, Kept, Left}
 
@@ -217,7 +218,7 @@ module _ (words n : ℕ) (live : Set) (l : Lent) (top a b : ℕ) (p : PairAt (64
           trail = λ j h. below-top j (omega arith) ∙ left .stays .trail j h;
         };
         rows = subst (λ (i : ℕ). Restored (64 * words) trail at i (held words rows) (held words (l₀ .rows))) (sym (add-one more))
-            (restored-next (64 * words) (l .trail) trail at more a b (held words (l .rows)) (held words rows) (held words (l₀ .rows)) (left .rows) (parts .back g p)
-            (λ j h. below-top j (omega arith)) (ap (λ (i : ℕ). getD trail i zero) (sym e) ∙ at-top) few-a few-b (form-few (laid .form)));
+            (restored-next (64 * words) (l .trail) trail at more a b (held words (l .rows)) (held words rows) (held words (l₀ .rows)) (form-few (laid .form)) (left .rows)
+            (parts .back g p) (λ j h. below-top j (omega arith)) (ap (λ (i : ℕ). getD trail i zero) (sym e) ∙ at-top) few-a few-b);
         few = omega (arith, long, trail-room, k .stays .trail-long);
       }
