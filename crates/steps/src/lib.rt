@@ -168,7 +168,17 @@ fn split(
     let mut more: usize = 0;
     loop {
         let d = merge_at(words, live, rows, names, a, b);
-        t = enter(words, n, without(live, b), rows, names, best, trail, at + more, t);
+        t = enter(
+            words,
+            n,
+            without(live, b),
+            rows,
+            names,
+            best,
+            trail,
+            at + more,
+            t,
+        );
         unmerge_at(words, rows, names, a, b, d);
         if t.out {
             return Looped {
@@ -255,7 +265,17 @@ fn explore(
             }
             Choice::Split(u, v) => {
                 let d = merge_at(words, live, rows, names, u, v);
-                t = explore(words, n, without(live, v), rows, names, best, trail, at + more, t);
+                t = explore(
+                    words,
+                    n,
+                    without(live, v),
+                    rows,
+                    names,
+                    best,
+                    trail,
+                    at + more,
+                    t,
+                );
                 unmerge_at(words, rows, names, u, v, d);
                 if t.out {
                     restore(words, rows, trail, at, more);
@@ -318,7 +338,17 @@ pub fn bounded_walk(
     ensures { λ r. ⌜ Walked (bounded n mycielskian) n (rowsOf words n (now (rows .entry))) budget (now (best .exit)) r ⌝ }
 {
     lay(n, rows, held, names, best);
-    enter(words, n, below(n), held, names, best, trail, 0, start(n, budget))
+    enter(
+        words,
+        n,
+        below(n),
+        held,
+        names,
+        best,
+        trail,
+        0,
+        start(n, budget),
+    )
 }
 
 // The plain walk, likewise.
@@ -336,5 +366,15 @@ pub fn plain_walk(
     ensures { λ r. ⌜ Walked (plain n) n (rowsOf words n (now (rows .entry))) budget (now (best .exit)) r ⌝ }
 {
     lay(n, rows, held, names, best);
-    explore(words, n, below(n), held, names, best, trail, 0, start(n, budget))
+    explore(
+        words,
+        n,
+        below(n),
+        held,
+        names,
+        best,
+        trail,
+        0,
+        start(n, budget),
+    )
 }

@@ -91,7 +91,16 @@ pub fn fewest(rows: &[u64], colours: &mut [u8], budget: u64) -> Answer
             let mut names: [u8; 64] = [0; 64];
             let mut best: [u8; 64] = [0; 64];
             let mut trail: [u16; 2016] = [0; 2016]; // as many pairs as 64 entries have
-            let s = bounded_walk(1, n, rows, &mut held, &mut names, &mut best, &mut trail, budget);
+            let s = bounded_walk(
+                1,
+                n,
+                rows,
+                &mut held,
+                &mut names,
+                &mut best,
+                &mut trail,
+                budget,
+            );
             told(rows, s, &best, colours)
         }
     }
@@ -110,7 +119,16 @@ pub fn plain(rows: &[u64], colours: &mut [u8], budget: u64) -> Answer
             let mut names: [u8; 64] = [0; 64];
             let mut best: [u8; 64] = [0; 64];
             let mut trail: [u16; 2016] = [0; 2016]; // as many pairs as 64 entries have
-            let s = plain_walk(1, n, rows, &mut held, &mut names, &mut best, &mut trail, budget);
+            let s = plain_walk(
+                1,
+                n,
+                rows,
+                &mut held,
+                &mut names,
+                &mut best,
+                &mut trail,
+                budget,
+            );
             told(rows, s, &best, colours)
         }
     }

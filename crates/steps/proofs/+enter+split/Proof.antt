@@ -449,10 +449,13 @@ module _ (t : ℕ) where
       let m = merged-of w in
       let i = turn-of m .loop .inv in (
         x .enter .ensures .kept .stays .form,
-        (round-unmerges (i .enters) (i .chosen) (m .merge-at .ensures) (w .without .result) (w .without .ensures) rule (x .enter .ensures), (
-          m .merge-at .ensures .rows-are .old-fits,
-          m .merge-at .ensures .rows-are .near-fits,
-        )),
+        (
+          round-unmerges (i .enters) (i .chosen) (m .merge-at .ensures) (w .without .result) (w .without .ensures) rule (x .enter .ensures),
+          (
+            m .merge-at .ensures .rows-are .old-fits,
+            m .merge-at .ensures .rows-are .near-fits,
+          ),
+        ),
       )
 
   split-same-length : split-lts.Need-same-length (split-claims t) (split-at t) split.Post split-Inv-loop split-μ-loop
