@@ -11,6 +11,7 @@ use wide::put_row;
 use wide::row_of;
 use wide::unmark;
 ghost use mathlib.Core.Path.{_≡_};
+ghost use mathlib.Core.Logic.{_⊎_};
 ghost use Prim.Native.Nat.{_+_, _*_, _%_, _≤_, _<_};
 ghost use lib.ListN.{length};
 ghost use Rattle.wide.specs.Words.{num};

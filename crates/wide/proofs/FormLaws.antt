@@ -1,7 +1,7 @@
 -- Rows of one word are the lent numbers themselves, and their sets the lowest words; rows of four words are what the four-word functions speak of.
 -- Assumes nothing.
 use mathlib.Core.Path.{_≡_, sym, ap, ap₂, _∙_, subst}
-use mathlib.Core.Logic.{_⊎_, inl, inr}
+use mathlib.Core.Logic.{_⊎_, inl, inr, ⊎-elim}
 use mathlib.Core.Bool.{not, _&&_, _||_}
 use mathlib.Core.List.{List, [], _∷_}
 use Prim.Native.Nat.{ℕ, zero, _+_, _*_, _/_, _%_, _^_, _≤_, _<_}
@@ -9,13 +9,13 @@ use native.Mathlib.Decide.{decLt}
 use native.Mathlib.Omega.{arith}
 use lib.Dec.{T}
 use lib.ListN.{length, getD, set, length-set}
-use Rattle.sets.specs.Set.{IsWith, IsWithout}
+use Rattle.sets.specs.Set.{has, IsWith, IsWithout, IsJoin, IsMeet, IsLess}
 use Rattle.sets.proofs.SetLaws.{has-beyond, has-shifted, no-members}
-use Rattle.sets.proofs.TestLaws.{or-false, and-true}
+use Rattle.sets.proofs.TestLaws.{and-l, or-cases, or-false, and-true}
 use Rattle.wide.specs.Words.{wide, num, rowsOf}
 use Rattle.wide.specs.Form.{held, One, Four, Form, Fits, Marked, Unmarked}
 use Rattle.wide.specs.declared.Set.{Set}
-use Rattle.wide.proofs.WideLaws.{Fit, none, more, wide-lt, rows-one}
+use Rattle.wide.proofs.WideLaws.{none, more, wide-lt, rows-one}
 use Rattle.wide.proofs.RowLaws.{row-end}
 use Rattle.wide.proofs.PlaceLaws.{Small, changed-is, changed-long}
 
@@ -32,6 +32,15 @@ pub fits-lt : (s : ℕ) → Fits 64 s → s < 2 ^ 64
 fits-lt s f =
     let z : s / 2 ^ 64 ≡ 0 = no-members (s / 2 ^ 64) (λ i t. absurd (let l = f (64 + i) (subst T (has-shifted 64 s i) t) in let e : ⊥ = omega arith in e)) in
     omega arith
+
+pub meet-fits : (cap s t r : ℕ) → Fits cap s → IsMeet s t r → Fits cap r
+meet-fits cap s t r f m i h = f i (and-l (has s i) (has t i) (subst T (m i) h))
+
+pub less-fits : (cap s t r : ℕ) → Fits cap s → IsLess s t r → Fits cap r
+less-fits cap s t r f m i h = f i (and-l (has s i) (not (has t i)) (subst T (m i) h))
+
+pub join-fits : (cap s t r : ℕ) → Fits cap s → Fits cap t → IsJoin s t r → Fits cap r
+join-fits cap s t r f g m i h = ⊎-elim (f i) (g i) (or-cases (has s i) (has t i) (subst T (m i) h))
 
 -- words after the first that are nothing
 low : (h a : ℕ) → h * 2 ^ 64 + a < 2 ^ 64 → h * 2 ^ 64 + a ≡ a
@@ -55,9 +64,21 @@ pub is-four : {words : ℕ} {rows : List ℕ} → (words ≡ 1 → ⊥) → Form
 is-four e (inl o) = absurd (e (o .words-one))
 is-four e (inr f) = f
 
+pub not-four : {words : ℕ} {rows : List ℕ} → (words ≡ 4 → ⊥) → Form words rows → One words rows
+not-four e (inl o) = o
+not-four e (inr f) = absurd (e (f .words-four))
+
 pub one-or-four : {words : ℕ} {rows : List ℕ} → Form words rows → (words ≡ 1) ⊎ (words ≡ 4)
 one-or-four (inl o) = inl (o .words-one)
 one-or-four (inr f) = inr (f .words-four)
+
+pub words-few : {words : ℕ} {rows : List ℕ} → Form words rows → words ≤ 4
+words-few (inl o) = omega (arith, o .words-one)
+words-few (inr f) = omega (arith, f .words-four)
+
+pub words-some : {words : ℕ} {rows : List ℕ} → Form words rows → 0 < words
+words-some (inl o) = omega (arith, o .words-one)
+words-some (inr f) = omega (arith, f .words-four)
 
 -- as many numbers
 pub form-same : {words : ℕ} {rows r : List ℕ} → Form words rows → length r ≡ length rows → Form words r
@@ -71,6 +92,9 @@ form-long {words} {rows} (inr f) = (subst (λ (w : ℕ). 64 * w * w ≡ length r
 -- the word of a place of a row is one of the lent numbers
 pub place-in : {words : ℕ} {rows : List ℕ} (x u : ℕ) → Form words rows → x < 64 * words → u < 64 * words → x * words + u / 64 < length rows
 place-in {words} x u f a b = let l = form-long f in let e = row-end words x (64 * words) a in omega (arith, l .0)
+
+pub place-few : {words : ℕ} {rows : List ℕ} (x u : ℕ) → Form words rows → x < 64 * words → u < 64 * words → x * words + u / 64 < 1024
+place-few x u f a b = omega (arith, place-in x u f a b, form-long f .1)
 
 -- ---- what the rows are
 

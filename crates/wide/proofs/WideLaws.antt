@@ -2,12 +2,12 @@
 use mathlib.Core.Path.{_≡_, refl, sym, ap, ap₂, _∙_, subst}
 use mathlib.Core.Bool.{Bool, true, false, not, cond, _&&_, _||_}
 use mathlib.Core.List.{List, [], _∷_}
-use Prim.Native.Nat.{ℕ, zero, suc, _+_, _*_, _-_, _%_, _^_, _≤_, _<_}
+use Prim.Native.Nat.{ℕ, suc, _+_, _*_, _-_, _^_, _≤_, _<_}
 use native.Mathlib.Decide.{decLt}
 use native.Mathlib.Numerals.{add-one}
 use native.Mathlib.Omega.{arith}
 use lib.Bits.{bitAnd, bitOr, and-lt, or-lt}
-use lib.Count.{ones, ones-cat}
+use lib.Count.{ones-cat}
 use lib.Dec.{T, eqb, ltb, eqb→eq, ltb→lt, lt→ltb}
 use lib.ListN.{length, take, drop, getD}
 use lib.Pow.{pow-add}
@@ -46,6 +46,11 @@ pub wide-op : (g : Bool → Bool → Bool) → g false false ≡ false → {k l 
 unfolding wide
 wide-op g e none j = has-none j ∙ sym e ∙ sym (ap₂ g (has-none j) (has-none j))
 wide-op g e (more {x} {y} {z} {k} {l} {m} w ws) j = both g x y z (wide k) (wide l) (wide m) w (λ i. wide-op g e ws i) j
+
+pub op-four : (g : Bool → Bool → Bool) → g false false ≡ false → {x y z x′ y′ z′ x″ y″ z″ x‴ y‴ z‴ : ℕ}
+    → Word g x y z → Word g x′ y′ z′ → Word g x″ y″ z″ → Word g x‴ y‴ z‴
+    → (j : ℕ) → has (wide (z ∷ z′ ∷ z″ ∷ z‴ ∷ [])) j ≡ g (has (wide (x ∷ x′ ∷ x″ ∷ x‴ ∷ [])) j) (has (wide (y ∷ y′ ∷ y″ ∷ y‴ ∷ [])) j)
+op-four g e p q r s = wide-op g e (more p (more q (more r (more s none))))
 
 pub and-word : {x y : ℕ} → x < 2 ^ 64 → y < 2 ^ 64 → Word _&&_ x y (bitAnd x y)
 and-word {x} {y} a b = record { fits-x = a; fits-y = b; fits-z = and-lt 64 x y a b; is = meet-is x y }
@@ -167,7 +172,7 @@ rows-one rows n e =
 
 -- ---- nothing
 
-pub zeros : (x : ℕ) (l : List ℕ) → wide (x ∷ l) ≡ 0 → (x ≡ 0) × (wide l ≡ 0)
+zeros : (x : ℕ) (l : List ℕ) → wide (x ∷ l) ≡ 0 → (x ≡ 0) × (wide l ≡ 0)
 unfolding wide
 zeros x l e = (omega arith, omega arith)
 
@@ -198,6 +203,13 @@ size-four {a} {b} {c} {d} p q r s =
     let e3 : size 128 (wide (c ∷ d ∷ [])) ≡ size 64 c + size 64 (wide (d ∷ [])) = wide-size r (more s none) in
     let e4 : size 64 (wide (d ∷ [])) ≡ size 64 d = ap (size 64) (last d) in
     omega arith
+
+pub none-four : {a b c d : ℕ} → wide (a ∷ b ∷ c ∷ d ∷ []) ≡ 0 → (a ≡ 0) × (b ≡ 0) × (c ≡ 0) × (d ≡ 0)
+none-four {a} {b} {c} {d} e =
+    let p = zeros a (b ∷ c ∷ d ∷ []) e in
+    let q = zeros b (c ∷ d ∷ []) (p .1) in
+    let r = zeros c (d ∷ []) (q .1) in
+    (p .0, q .0, r .0, zeros d [] (r .1) .0)
 
 pub zero-four : {a b c d : ℕ} → a ≡ 0 → b ≡ 0 → c ≡ 0 → d ≡ 0 → wide (a ∷ b ∷ c ∷ d ∷ []) ≡ 0
 zero-four {a} {b} {c} {d} p q r s = zero-both a _ p (zero-both b _ q (zero-both c _ r (zero-both d [] s (wide-none))))

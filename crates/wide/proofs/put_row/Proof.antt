@@ -40,7 +40,8 @@ same-length-2 c = search needs
 returns-2 : tie.Need-returns-2
 returns-2 c =
     let s = c .before .before .before .before .before .before in
-    put-four (s .args .i) (num (s .args .s)) (is-four (c .before .before .before .before .if1 .left) (s .pre .0)) (c .before .before .put .ensures .0) (c .before .before .put .ensures .1)
+    let e = c .before .before .put .ensures in
+    put-four (s .args .i) (num (s .args .s)) (is-four (c .before .before .before .before .if1 .left) (s .pre .0)) (e .0) (e .1)
 
 pub put-row-spec : {M : Type 1} → statement M
 put-row-spec = tie.close (tie.spec mul-rows slice-write-rows same-length returns put-requires same-length-2 returns-2)

@@ -1,5 +1,5 @@
 -- `wide::row_of` meets its contract: a lent number, or the four words of the row. Assumes nothing.
-use mathlib.Core.Path.{_≡_, sym, ap, _∙_, subst}
+use mathlib.Core.Path.{sym, ap, _∙_, subst}
 use Prim.Native.Nat.{ℕ, _*_, _<_, _^_}
 use native.Mathlib.Omega.{arith}
 use lib.ListN.{length, getD}
@@ -46,7 +46,8 @@ returns-2 c =
     let l = a .rows .now in
     let f = is-four (c .before .if1 .left) (s .pre .0) in (
       c .row .ensures ∙ ap (λ l. getD l (a .i) 0) (sym (held-four (a .words) l f)),
-      subst (λ (w : ℕ). Fits (64 * w) (num (c .row .result))) (sym (f .words-four)) (four-fits (c .row .result) (search needs) (search needs) (search needs) (search needs)),
+      subst (λ (w : ℕ). Fits (64 * w) (num (c .row .result))) (sym (f .words-four))
+          (four-fits (c .row .result) (search needs) (search needs) (search needs) (search needs)),
     )
 
 pub row-of-spec : {M : Type 1} → statement M

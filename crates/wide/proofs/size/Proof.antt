@@ -21,14 +21,17 @@ size-requires-3 : tie.Need-size-requires-3
 size-requires-3 c κs = search needs
 
 add-result-2 : tie.Need-add-result-2
-add-result-2 c = record { fits = let s = c .before .before .before .args .s in omega (arith, count-few (has (s .a)) 64, count-few (has (s .b)) 64, count-few (has (s .c)) 64) }
+add-result-2 c =
+    let s = c .before .before .before .args .s in
+    record { fits = omega (arith, count-few (has (s .a)) 64, count-few (has (s .b)) 64, count-few (has (s .c)) 64) }
 
 size-requires-4 : tie.Need-size-requires-4
 size-requires-4 c κs = search needs
 
 add-result-3 : tie.Need-add-result-3
 add-result-3 c =
-    record { fits = let s = c .before .before .before .before .args .s in omega (arith, count-few (has (s .a)) 64, count-few (has (s .b)) 64, count-few (has (s .c)) 64, count-few (has (s .d)) 64) }
+    let s = c .before .before .before .before .args .s in
+    record { fits = omega (arith, count-few (has (s .a)) 64, count-few (has (s .b)) 64, count-few (has (s .c)) 64, count-few (has (s .d)) 64) }
 
 returns : tie.Need-returns
 unfolding num

@@ -1,9 +1,8 @@
 -- `wide::unmark` meets its contract: one word loses one place. Assumes nothing.
-use Prim.Native.Nat.{_+_, _*_, _/_, _^_, _<_}
 use native.Mathlib.Omega.{arith}
 use borrow.Author.Needs.{needs}
 use Rattle.wide.proofs.PlaceLaws.{Small}
-use Rattle.wide.proofs.FormLaws.{form-long, place-in, form-written, unmarked-is}
+use Rattle.wide.proofs.FormLaws.{place-in, place-few, form-written, unmarked-is}
 use Rattle.wide.proofs.unmark.Statement.{statement}
 use Rattle.wide.proofs.unmark.Tie as tie
 
@@ -11,28 +10,22 @@ mul-at : tie.Need-mul-at
 mul-at c =
     let s = c .before in
     let a = s .args in
-    let p = place-in (a .x) (a .u) (s .pre .0) (s .pre .1 .0) (s .pre .1 .1) in
-    record { fits = let z : a .x * a .words < 2 ^ 64 = omega (arith, form-long (s .pre .0) .1) in z }
+    record { fits = omega (arith, place-few (a .x) (a .u) (s .pre .0) (s .pre .1 .0) (s .pre .1 .1)) }
 
 add-at : tie.Need-add-at
 add-at c =
     let s = c .before in
     let a = s .args in
-    let p = place-in (a .x) (a .u) (s .pre .0) (s .pre .1 .0) (s .pre .1 .1) in
-    record { fits = let z : a .x * a .words + a .u / 64 < 2 ^ 64 = omega (arith, form-long (s .pre .0) .1) in z }
+    record { fits = omega (arith, place-few (a .x) (a .u) (s .pre .0) (s .pre .1 .0) (s .pre .1 .1)) }
 
 mul-without : tie.Need-mul-without
 mul-without c =
     let s = c .before in
     let a = s .args in
-    let p = place-in (a .x) (a .u) (s .pre .0) (s .pre .1 .0) (s .pre .1 .1) in
-    record { fits = let z : (a .x * a .words + a .u / 64) * 8 < 2 ^ 64 = omega (arith, form-long (s .pre .0) .1) in z }
+    record { fits = omega (arith, place-few (a .x) (a .u) (s .pre .0) (s .pre .1 .0) (s .pre .1 .1)) }
 
 slice-read-without : tie.Need-slice-read-without
-slice-read-without c =
-    let s = c .before .before in
-    let a = s .args in
-    place-in (a .x) (a .u) (s .pre .0) (s .pre .1 .0) (s .pre .1 .1)
+slice-read-without c = let s = c .before .before in place-in (s .args .x) (s .args .u) (s .pre .0) (s .pre .1 .0) (s .pre .1 .1)
 
 without-requires : tie.Need-without-requires
 without-requires c κs = search needs
@@ -41,14 +34,10 @@ mul-rows : tie.Need-mul-rows
 mul-rows c =
     let s = c .before .before .before in
     let a = s .args in
-    let p = place-in (a .x) (a .u) (s .pre .0) (s .pre .1 .0) (s .pre .1 .1) in
-    record { fits = let z : (a .x * a .words + a .u / 64) * 8 < 2 ^ 64 = omega (arith, form-long (s .pre .0) .1) in z }
+    record { fits = omega (arith, place-few (a .x) (a .u) (s .pre .0) (s .pre .1 .0) (s .pre .1 .1)) }
 
 slice-write-rows : tie.Need-slice-write-rows
-slice-write-rows c =
-    let s = c .before .before .before in
-    let a = s .args in
-    place-in (a .x) (a .u) (s .pre .0) (s .pre .1 .0) (s .pre .1 .1)
+slice-write-rows c = let s = c .before .before .before in place-in (s .args .x) (s .args .u) (s .pre .0) (s .pre .1 .0) (s .pre .1 .1)
 
 same-length : tie.Need-same-length
 same-length c = search needs
