@@ -67,19 +67,24 @@ fn by_pairs(rows: &[u64], u: usize, near: u64, apart: u64, best: Lead) -> Lead
     requires { ⌜ length (now rows) ≡ 64 ⌝ }
     ensures { λ r. ⌜ r ≡ over (lead (shared (now (rows .entry)) near) u) best (members (member apart) 64) ⌝ }
 {
-    let mut best = best;
+    let mut top = best.size;
+    let mut at = best.v;
     let mut left = apart;
     while left != 0 {
         let v = lowest(left);
         left = rest(left);
         let common = size(meet(near, rows[v])) + 1;
-        if best.size < common {
-            best = Lead {
-                size: common,
-                u: u,
-                v: v,
-            };
+        if top < common {
+            top = common;
+            at = v;
         }
+    }
+    if best.size < top {
+        return Lead {
+            size: top,
+            u: u,
+            v: at,
+        };
     }
     best
 }
