@@ -52,7 +52,8 @@ module _ {n u v : ℕ} {rows half r : List ℕ} (apart : u ≡ v → ⊥) (one :
     both-ways = λ x y b d t. subst T (sym (is y x)) (elim (clash x y t) [
       | inl a ↦ or-l (matrix rows y x || (eqb u y && eqb v x)) (eqb v y && eqb u x) (or-l (matrix rows y x) (eqb u y && eqb v x) (valid .both-ways x y b d a))
       | inr a ↦ (elim a [
-        | inl e ↦ or-r (matrix rows y x || (eqb u y && eqb v x)) (eqb v y && eqb u x) (and-t (eqb v y) (eqb u x) (and-r (eqb u x) (eqb v y) e) (and-l (eqb u x) (eqb v y) e))
+        | inl e ↦ or-r (matrix rows y x || (eqb u y && eqb v x)) (eqb v y && eqb u x)
+            (and-t (eqb v y) (eqb u x) (and-r (eqb u x) (eqb v y) e) (and-l (eqb u x) (eqb v y) e))
         | inr e ↦ or-l (matrix rows y x || (eqb u y && eqb v x)) (eqb v y && eqb u x)
             (or-r (matrix rows y x) (eqb u y && eqb v x) (and-t (eqb u y) (eqb v x) (and-r (eqb v x) (eqb u y) e) (and-l (eqb v x) (eqb u y) e)))
       ])

@@ -5,7 +5,6 @@ use native.Mathlib.Omega.{arith}
 use lib.ListN.{length}
 use Rattle.clashes.specs.Matrix.{Valid, matrix}
 use Rattle.wide.specs.Words.{rowsOf}
-use borrow.Author.Needs.{needs}
 use Rattle.trials_wide.proofs.add_pairs.Statement.{statement}
 use Rattle.trials_wide.proofs.add_pairs.Tie as tie
 

@@ -1,7 +1,6 @@
 -- `trials_wide::no_rows` are rows of a valid list. Assumes nothing.
 use mathlib.Core.Path.{refl}
 use Rattle.trials_wide.proofs.ValidLaws.{none-valid}
-use borrow.Author.Needs.{needs}
 use Rattle.trials_wide.proofs.no_rows.Statement.{statement}
 use Rattle.trials_wide.proofs.no_rows.Tie as tie
 

@@ -27,13 +27,21 @@ is-empty-requires : tie.Need-is-empty-requires Inv-loop μ-loop
 is-empty-requires c κs = search needs
 
 lowest-requires : tie.Need-lowest-requires Inv-loop μ-loop
-lowest-requires c κs = c .before .is-empty .ensures .1 (not-true _ (c .if1 .taken))
+lowest-requires c κs =
+    let empty = c .before .is-empty in
+    let if1 = c .if1 in
+    empty .ensures .1 (not-true _ (if1 .taken))
 
 without-requires : tie.Need-without-requires Inv-loop μ-loop
-without-requires c κs = c .lowest .ensures .below
+without-requires c κs =
+    let low = c .lowest in
+    low .ensures .below
 
 row-requires : tie.Need-row-requires Inv-loop μ-loop
-row-requires c κs = (c .before .before .before .before .before .before .pre, c .before .lowest .ensures .below)
+row-requires c κs =
+    let pre = c .before .before .before .before .before .before .pre in
+    let low = c .before .lowest in
+    (pre, low .ensures .below)
 
 meet-requires : tie.Need-meet-requires Inv-loop μ-loop
 meet-requires c κs = search needs
@@ -42,38 +50,64 @@ size-requires : tie.Need-size-requires Inv-loop μ-loop
 size-requires c κs = search needs
 
 add-common : tie.Need-add-common Inv-loop μ-loop
-add-common c = omega (arith, c .size .ensures, size-le 256 (num (c .before .meet .result)))
+add-common c =
+    let sized = c .size in
+    let met = c .before .meet in
+    omega (arith, sized .ensures, size-le 256 (num (met .result)))
 
 loop-less : tie.Need-loop-less Inv-loop μ-loop
 loop-less c =
-    left-falls _ _ _ (c .before .before .before .before .before .before .lowest .ensures) (c .before .before .before .before .before .without .ensures)
+    let low = c .before .before .before .before .before .before .lowest in
+    let out = c .before .before .before .before .before .without in
+    left-falls _ _ _ (low .ensures) (out .ensures)
 
 loop-again : tie.Need-loop-again Inv-loop μ-loop
 loop-again c =
     let a = c .before .before .before .before .before .before .before .before .before .before .before .args in
+    let met = c .before .before .before .meet in
+    let line = c .before .before .before .before .row in
     let l = c .before .before .before .before .before .before .before .before .before .loop in
-    let m = subst (λ x. IsMeet (num (a .near)) x (num (c .before .before .before .meet .result))) (c .before .before .before .before .row .ensures) (c .before .before .before .meet .ensures) in
-    over-next (lead (sharedAt 256 (rowsOf 4 256 (a .rows .now)) (num (a .near))) (a .u)) (l .best) _ (num (l .left)) (c .before .before .before .before .before .before .lowest .result) (num (c .before .before .before .before .before .without .result)) (c .before .before .before .before .before .before .lowest .ensures) (c .before .before .before .before .before .without .ensures)
-    (lead-taken 256 (rowsOf 4 256 (a .rows .now)) (num (a .near)) (a .u) (c .before .before .before .before .before .before .lowest .result) (num (c .before .before .before .meet .result)) (c .before .before .size .result) (l .best) m (c .before .before .size .ensures) (c .if2 .taken))
+    let low = c .before .before .before .before .before .before .lowest in
+    let out = c .before .before .before .before .before .without in
+    let sized = c .before .before .size in
+    let if2 = c .if2 in
+    let m = subst (λ x. IsMeet (num (a .near)) x (num (met .result))) (line .ensures) (met .ensures) in
+    over-next (lead (sharedAt 256 (rowsOf 4 256 (a .rows .now)) (num (a .near))) (a .u)) (l .best) _ (num (l .left)) (low .result) (num (out .result))
+    (low .ensures) (out .ensures)
+    (lead-taken 256 (rowsOf 4 256 (a .rows .now)) (num (a .near)) (a .u) (low .result) (num (met .result)) (sized .result) (l .best) m (sized .ensures) (if2 .taken))
     ∙ l .inv
 
 loop-less-2 : tie.Need-loop-less-2 Inv-loop μ-loop
 loop-less-2 c =
-    left-falls _ _ _ (c .before .before .before .before .before .before .lowest .ensures) (c .before .before .before .before .before .without .ensures)
+    let low = c .before .before .before .before .before .before .lowest in
+    let out = c .before .before .before .before .before .without in
+    left-falls _ _ _ (low .ensures) (out .ensures)
 
 loop-again-2 : tie.Need-loop-again-2 Inv-loop μ-loop
 loop-again-2 c =
     let a = c .before .before .before .before .before .before .before .before .before .before .before .args in
+    let met = c .before .before .before .meet in
+    let line = c .before .before .before .before .row in
     let l = c .before .before .before .before .before .before .before .before .before .loop in
-    let m = subst (λ x. IsMeet (num (a .near)) x (num (c .before .before .before .meet .result))) (c .before .before .before .before .row .ensures) (c .before .before .before .meet .ensures) in
-    over-next (lead (sharedAt 256 (rowsOf 4 256 (a .rows .now)) (num (a .near))) (a .u)) (l .best) _ (num (l .left)) (c .before .before .before .before .before .before .lowest .result) (num (c .before .before .before .before .before .without .result)) (c .before .before .before .before .before .before .lowest .ensures) (c .before .before .before .before .before .without .ensures)
-    (lead-kept 256 (rowsOf 4 256 (a .rows .now)) (num (a .near)) (a .u) (c .before .before .before .before .before .before .lowest .result) (num (c .before .before .before .meet .result)) (c .before .before .size .result) (l .best) m (c .before .before .size .ensures) (c .if2 .left))
+    let low = c .before .before .before .before .before .before .lowest in
+    let out = c .before .before .before .before .before .without in
+    let sized = c .before .before .size in
+    let if2 = c .if2 in
+    let m = subst (λ x. IsMeet (num (a .near)) x (num (met .result))) (line .ensures) (met .ensures) in
+    over-next (lead (sharedAt 256 (rowsOf 4 256 (a .rows .now)) (num (a .near))) (a .u)) (l .best) _ (num (l .left)) (low .result) (num (out .result))
+    (low .ensures) (out .ensures)
+    (lead-kept 256 (rowsOf 4 256 (a .rows .now)) (num (a .near)) (a .u) (low .result) (num (met .result)) (sized .result) (l .best) m (sized .ensures) (if2 .left))
     ∙ l .inv
 
 returns : tie.Need-returns Inv-loop μ-loop
 returns c =
     let a = c .before .before .before .before .args in
-    sym (over-none 256 (lead (sharedAt 256 (rowsOf 4 256 (a .rows .now)) (num (a .near))) (a .u)) (c .before .before .loop .best) (num (c .before .before .loop .left)) (c .before .is-empty .ensures .0 (not-false _ (c .if1 .left)))) ∙ c .before .before .loop .inv
+    let l = c .before .before .loop in
+    let empty = c .before .is-empty in
+    let if1 = c .if1 in
+    sym (over-none 256 (lead (sharedAt 256 (rowsOf 4 256 (a .rows .now)) (num (a .near))) (a .u)) (l .best) (num (l .left))
+    (empty .ensures .0 (not-false _ (if1 .left))))
+    ∙ l .inv
 
 pub by-pairs-spec : {M : Type 1} → statement M
 by-pairs-spec =
