@@ -18,7 +18,7 @@
    only reads may overlap: the list and the sheet of a check may be one text.
 
    Threads. Calls share nothing, so any number of threads may call at once, as long as none writes what another is lent. A call needs less than
-   128 KB of stack, whatever the list (measured: 112 KB were enough, 104 KB were not); give a thread that is made for it SLOTSHEET_STACK_BYTES.
+   64 KB of stack, whatever the list (measured: 48 KB were enough, 44 KB were not); give a thread that is made for it SLOTSHEET_STACK_BYTES.
 
    The repository's own target/staticlib/libcapi.a has the proved functions alone: there no pointer may be NULL, also where the length is 0, and
    slotsheet_version, slotsheet_name and slotsheet_sentence are missing. */

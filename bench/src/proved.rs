@@ -44,7 +44,8 @@ pub fn check_repeats(list: &[u8], sheet: &[u8], colours: &mut [u8]) -> Option<us
     slotsheet::check_sheet_repeats(list, sheet, colours).ok()
 }
 
-/// The pair choice, which the library does not export: bench/native shows it to the linker under its own name. It has the shape that it is compiled to.
+/// The pair choice, which the library does not export: bench/native shows it to the linker under its own name. It has the shape that it is compiled to:
+/// how many words a row has is left out, since all rows of the library have one.
 #[cfg(feature = "pair_choice")]
 pub fn pair(live: u64, rows: &[u64; 64]) -> Option<(usize, usize)> {
     #[repr(C)]
@@ -53,14 +54,19 @@ pub fn pair(live: u64, rows: &[u64; 64]) -> Option<(usize, usize)> {
         u: usize,
         v: usize,
     }
+    #[repr(C)]
+    struct Lent {
+        start: *const u64,
+        length: usize,
+    }
     extern "C" {
-        #[link_name = "graphs::choose_among"]
-        fn choose_among(choice: *mut Choice, live: u64, rows: *const [u64; 64]);
+        #[link_name = "seam::choose_among"]
+        fn choose_among(choice: *mut Choice, live: *const [u64; 4], rows: *const Lent);
     }
     let mut choice = std::mem::MaybeUninit::<Choice>::uninit();
     // SAFETY: these are the parameters that it is compiled with; of a choice it writes what is read here, the vertices only where there is a split.
     unsafe {
-        choose_among(choice.as_mut_ptr(), live, rows);
+        choose_among(choice.as_mut_ptr(), &[live, 0, 0, 0], &Lent { start: rows.as_ptr(), length: rows.len() });
         let choice = choice.as_ptr();
         ((*choice).split == 1).then(|| ((*choice).u, (*choice).v))
     }

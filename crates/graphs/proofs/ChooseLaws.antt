@@ -1,7 +1,7 @@
 -- Laws of the choice of the pair: what the code holds of each row, and that all rows give the pair of the graph. Assumes nothing.
 use mathlib.Core.Path.{_≡_, refl, sym, ap, ap₂, _∙_, subst, fun-ext}
 use mathlib.Core.Logic.{_≢_, inl, inr}
-use mathlib.Core.Bool.{Bool, true, false, not, _&&_}
+use mathlib.Core.Bool.{Bool, true, false, not, _&&_, cond}
 use mathlib.Core.List.{List, [], _∷_}
 use mathlib.Core.Option.{Option, none, some}
 use Prim.Native.Nat.{ℕ, zero, suc, _+_, _≤_, _<_}
@@ -10,7 +10,7 @@ use native.Mathlib.Decide.{decLt}
 use native.Mathlib.Omega.{arith}
 use lib.Dec.{T, leb, ltb, ltb→lt, lt→ltb}
 use lib.ListN.{getD}
-use borrow.Author.Tests.{le-leb}
+use borrow.Author.Tests.{le-leb, lt-ltb, le-ltb}
 use Rattle.sets.specs.Lists.{In, count, upto, members, select, cross, over}
 use Rattle.sets.specs.Set.{has, size, IsWithout, IsMeet, IsLess, IsLowest}
 use Rattle.sets.proofs.TestLaws.{and-l, and-r, and-t, T?, T→true, T-ext}
@@ -44,6 +44,24 @@ module _ (cap : ℕ) (rows : List ℕ) (near u v m c : ℕ) (l : Lead) (h : IsMe
 
   pub lead-kept : c + 1 ≤ l .size → l ≡ lead (sharedAt cap rows near) u l v
   lead-kept b = sym (lead-less (sharedAt cap rows near) u l v (omega (arith, plus)))
+
+-- what leads after some of u's pairs: u with `at` where `top` is more than what led before, else that
+abbrev pub sofar : Lead → ℕ → ℕ → ℕ → Lead
+sofar l u top at = cond (ltb (l .size) top) (record { size = top; u = u; v = at }) l
+
+module _ (l : Lead) (u top at : ℕ) where
+  pub sofar-more : l .size < top → sofar l u top at ≡ record { size = top; u = u; v = at }
+  sofar-more b = ap (λ (t : Bool). cond t (record { size = top; u = u; v = at }) l) (lt-ltb (l .size) top b)
+
+  pub sofar-same : top ≤ l .size → sofar l u top at ≡ l
+  sofar-same b = ap (λ (t : Bool). cond t (record { size = top; u = u; v = at }) l) (le-ltb (l .size) top b)
+
+  pub sofar-size : l .size ≤ top → sofar l u top at .size ≡ top
+  sofar-size b = go (decLt (l .size) top)
+    where
+      go : Dec (l .size < top) → sofar l u top at .size ≡ top
+      go (yes c) = ap (λ (m : Lead). m .size) (sofar-more c)
+      go (no q) = ap (λ (m : Lead). m .size) (sofar-same (omega arith)) ∙ omega arith
 
 -- u has fewer neighbours than would lead: whoever it is paired with shares no more, so its row is passed over
 pub row-passed : (cap : ℕ) (rows : List ℕ) (near apart u : ℕ) (best : Lead) → size cap near < best .size

@@ -5,22 +5,23 @@ use mathlib.Core.Bool.{Bool, true, false, not, _&&_, _||_, cond}
 use mathlib.Core.List.{List}
 use mathlib.Core.Option.{none}
 use Prim.Native.Nat.{ℕ, zero, suc, _≤_, _<_}
-use native.Mathlib.Decide.{ℕ-discrete}
+use native.Mathlib.Decide.{ℕ-discrete, decLt}
 use native.Mathlib.Omega.{arith}
-use lib.Dec.{T, eqb, ltb, eqb→eq, ltb→lt}
-use lib.ListN.{length, getD, set, length-set}
+use lib.Dec.{T, eqb, ltb, eqb→eq, ltb→lt, lt→ltb}
+use lib.ListN.{length, getD, set, length-set, List·getD-eq-default}
 use lib.Seq.{getD-set-same, getD-set-other, lt-length-set}
-use borrow.Author.Tests.{eq-eqb, ne-eqb, lt-ltb}
-use Rattle.sets.specs.Lists.{count, upto, members}
+use borrow.Author.Tests.{eq-eqb, ne-eqb, lt-ltb, le-ltb}
+use Rattle.sets.specs.Lists.{count, upto, members, table}
 use Rattle.sets.specs.Set.{has, size, IsWith, IsWithout, IsJoin, IsMeet, IsLess, IsBelow}
 use Rattle.sets.proofs.TestLaws.{and-r, and-t, and-true, and-turn, or-false, T→true, T→false, T-ext, eqb-same, eqb-turn}
+use Rattle.sets.proofs.ListLaws.{length-table, getD-table}
 use Rattle.sets.proofs.MemberLaws.{count-agree, count-narrow, members-count, members-agree, members-narrow}
 use Rattle.clashes.specs.Divisions.{groups}
-use Rattle.clashes.specs.Matrix.{matrix, Sound}
+use Rattle.clashes.specs.Matrix.{matrix, Valid, SoundUpTo}
 use Rattle.clashes.proofs.MatrixLaws.{sound-valid}
 use Rattle.graphs.specs.Graph.{Graph, live, vertices, merge, separate, pair, missing, grouping, graph}
 use Rattle.graphs.specs.Good.{Live, Good, Merged, Parted}
-use Rattle.graphs.specs.Held.{HeldAt, view, choiceOf}
+use Rattle.graphs.specs.Held.{HeldAt, HoldsAt, view, choiceOf, node}
 use Rattle.graphs.specs.Acts.{RootAt, PairAt, BecomesAt, Linked, Renamed}
 use Rattle.graphs.specs.declared.Node.{Node}
 use Rattle.graphs.specs.declared.Choice.{Choice}
@@ -53,6 +54,9 @@ module _ {cap : ℕ} (h : Node) (k : HeldAt cap h) where
   pub live-below : (x : ℕ) → T (has (h .live) x) → x < h .n
   live-below x t = held-live x t .below
 
+  pub live-fits : (x : ℕ) → T (has (h .live) x) → x < cap
+  live-fits x t = omega (arith, live-below x t, k .few)
+
   pub held-beyond : (x : ℕ) → h .n ≤ x → ¬ T (has (h .live) x)
   held-beyond x b t = let c = live-below x t in let z : ⊥ = omega arith in z
 
@@ -74,28 +78,9 @@ module _ {cap : ℕ} (h : Node) (k : HeldAt cap h) where
   pub held-groups : groups 0 (grouping (h .n) (view h)) ≡ size cap (h .live)
   held-groups = grouping-groups (h .n) (view h) (k .good) ∙ sym held-vertices
 
-  -- what the choice of the graph's pair says: the two may be merged or separated, or there is no pair
-  pub choice-pair : (c : Choice) (u v : ℕ) → c ≡ Split u v → choiceOf c ≡ pair (h .n) (view h) → PairAt cap h u v
-  choice-pair c u v s e = record { held = k; chosen = pair-chosen (h .n) (view h) u v (k .good) (sym e ∙ ap choiceOf s) }
-
-  pub choice-none : (c : Choice) → c ≡ Complete → choiceOf c ≡ pair (h .n) (view h) → pair (h .n) (view h) ≡ none
-  choice-none c s e = sym e ∙ ap choiceOf s
-
 -- ---- what falls
 
 module _ {cap : ℕ} (h r : Node) (u v : ℕ) (p : PairAt cap h u v) where
-  pub merged-size : BecomesAt cap h r (merge u v (view h)) → suc (size cap (r .live)) ≡ size cap (h .live)
-  merged-size b =
-      ap suc (held-count r (b .held) ∙ ap₂ (λ (n : ℕ) (g : Graph). count (live n g) (upto n)) (b .same) (b .is))
-      ∙ merged-count (h .n) (view h) (merge u v (view h)) u v (p .held .good) (p .chosen) (merge-is (h .n) (view h) u v (p .held .good) (p .chosen))
-      ∙ sym (held-count h (p .held))
-
-  pub separated-size : BecomesAt cap h r (separate u v (view h)) → size cap (r .live) ≡ size cap (h .live)
-  separated-size b =
-      held-count r (b .held) ∙ ap₂ (λ (n : ℕ) (g : Graph). count (live n g) (upto n)) (b .same) (b .is)
-      ∙ parted-count (h .n) (view h) (separate u v (view h)) u v (p .held .good) (p .chosen) (separate-is (h .n) (view h) u v (p .held .good) (p .chosen))
-      ∙ sym (held-count h (p .held))
-
   pub merged-missing : BecomesAt cap h r (merge u v (view h)) → missing (r .n) (view r) < missing (h .n) (view h)
   merged-missing b =
       subst (λ (m : ℕ). m < missing (h .n) (view h)) (sym (ap₂ (λ (n : ℕ) (g : Graph). missing n g) (b .same) (b .is)))
@@ -108,55 +93,59 @@ module _ {cap : ℕ} (h r : Node) (u v : ℕ) (p : PairAt cap h u v) where
 
 -- ---- the root
 
-module _ (cap : ℕ) (rows : List ℕ) (r : Node) (s : Sound rows) (few : length rows ≤ cap) (e : r .n ≡ length rows) (below : IsBelow (length rows) (r .live))
-    (held : (x : ℕ) → getD (r .rows) x zero ≡ cond (ltb x (length rows)) (getD rows x zero) zero)
-    (names : (i : ℕ) → getD (r .names) i zero ≡ cond (ltb i (length rows)) i zero) (rows-long : length (r .rows) ≡ cap) (names-long : length (r .names) ≡ cap) where
-  root-adj : (x y : ℕ) → view r .adj x y ≡ graph (length rows) (matrix rows) .adj x y
-  root-adj x y =
-      ap₂ (λ (a b : Bool). a && (b && has (getD (r .rows) x zero) y)) (below x) (below y)
-      ∙ ap (λ (m : ℕ). ltb x (length rows) && (ltb y (length rows) && has m y)) (held x) ∙ go (ltb x (length rows))
+-- rows that have the clashes of n entries, each of which stands for itself; what stands at other places does not matter
+module _ {cap n : ℕ} (clash : ℕ → ℕ → Bool) (r : Node) (valid : Valid n clash) (few : n ≤ cap) (e : r .n ≡ n) (below : IsBelow n (r .live))
+    (held : (x y : ℕ) → x < n → matrix (r .rows) x y ≡ clash x y) (names : (i : ℕ) → getD (r .names) i zero ≡ cond (ltb i n) i zero)
+    (rows-long : length (r .rows) ≡ cap) (names-long : length (r .names) ≡ cap) where
+  pub list-is : view r ≡ graph n clash
+  list-is = graph-ext (view r) (graph n clash) names adj
     where
-      go : (b : Bool) → (b && (ltb y (length rows) && has (cond b (getD rows x zero) zero) y)) ≡ (b && (ltb y (length rows) && has (getD rows x zero) y))
-      go true = refl
-      go false = refl
+      adj : (x y : ℕ) → view r .adj x y ≡ graph n clash .adj x y
+      adj x y = ap₂ (λ (a b : Bool). a && (b && matrix (r .rows) x y)) (below x) (below y) ∙ go (ltb x n) (λ t. held x y (ltb→lt x n t))
+        where
+          go : (b : Bool) → (T b → matrix (r .rows) x y ≡ clash x y) → (b && (ltb y n && matrix (r .rows) x y)) ≡ (b && (ltb y n && clash x y))
+          go true h = ap (λ (c : Bool). ltb y n && c) (h tt)
+          go false h = refl
 
+  pub list-held : HeldAt cap r
+  list-held = holds cap r n (graph n clash) rows-long names-long e few list-is (good-graph n clash valid) lives
+    where
+      lives : (x : ℕ) → has (r .live) x ≡ live n (graph n clash) x
+      lives x =
+          below x ∙ T-ext (ltb x n) (live n (graph n clash) x) (λ t. of-live n (graph n clash) x (graph-live n clash x (ltb→lt x n t)))
+          (λ t. lt→ltb x n (live-of n (graph n clash) x t .below))
+
+module _ (cap : ℕ) {most : ℕ} (rows : List ℕ) (r : Node) (s : SoundUpTo most rows) (few : length rows ≤ cap) (e : r .n ≡ length rows)
+    (below : IsBelow (length rows) (r .live)) (held : (x : ℕ) → x < length rows → getD (r .rows) x zero ≡ getD rows x zero)
+    (names : (i : ℕ) → getD (r .names) i zero ≡ cond (ltb i (length rows)) i zero) (rows-long : length (r .rows) ≡ cap) (names-long : length (r .names) ≡ cap) where
   pub root-is : RootAt cap rows r
   root-is = record {
-    held = holds cap r (length rows) G rows-long names-long e few is (good-graph (length rows) (matrix rows) (sound-valid rows s)) lives;
+    held = list-held (matrix rows) r (sound-valid rows s) few e below at names rows-long names-long;
     same = e;
-    is = is;
+    is = list-is (matrix rows) r (sound-valid rows s) few e below at names rows-long names-long;
   }
     where
-      G : Graph
-      G = graph (length rows) (matrix rows)
+      at : (x y : ℕ) → x < length rows → matrix (r .rows) x y ≡ matrix rows x y
+      at x y b = ap (λ (m : ℕ). has m y) (held x b)
 
-      is : view r ≡ graph (length rows) (matrix rows)
-      is = graph-ext (view r) (graph (length rows) (matrix rows)) names root-adj
+-- lent rows of a valid list hold it, every entry live
+pub valid-holds : {cap n live : ℕ} (rows : List ℕ) → length rows ≡ cap → n ≤ cap → IsBelow n live → Valid n (matrix rows) → HoldsAt cap live rows
+valid-holds {cap} {n} {live} rows long few below valid =
+    (r, list-held (matrix rows) r valid few refl below (λ x y b. refl) (λ i. at i (decLt i cap)) long (length-table name cap))
+  where
+    name : ℕ → ℕ
+    name i = cond (ltb i n) i zero
 
-      lives : (x : ℕ) → has (r .live) x ≡ live (length rows) (graph (length rows) (matrix rows)) x
-      lives x =
-          below x ∙ T-ext (ltb x (length rows)) (live (length rows) (graph (length rows) (matrix rows)) x)
-          (λ t. of-live (length rows) (graph (length rows) (matrix rows)) x (graph-live (length rows) (matrix rows) x (ltb→lt x (length rows) t)))
-          (λ t. T-less (live-of (length rows) (graph (length rows) (matrix rows)) x t .below))
-        where
-          T-less : x < length rows → T (ltb x (length rows))
-          T-less b = subst T (sym (lt-ltb x (length rows) b)) tt
+    r : Node
+    r = node n live rows (table name cap)
+
+    at : (i : ℕ) → Dec (i < cap) → getD (table name cap) i zero ≡ cond (ltb i n) i zero
+    at i (yes b) = getD-table name cap zero i b
+    at i (no b) =
+        List·getD-eq-default (table name cap) zero (omega (arith, length-table name cap))
+        ∙ sym (ap (λ (t : Bool). cond t i zero) (le-ltb i n (omega arith)))
 
 -- ---- merging
-
--- one vertex more has u in its row
-pub link-next : (new : List ℕ) (u left w next row : ℕ) → w < length new → T (has left w) → IsWithout left w next → IsWith (getD new w zero) u row
-    → (x y : ℕ) → (has (getD (set new w row) x zero) y || (has next x && eqb u y)) ≡ (has (getD new x zero) y || (has left x && eqb u y))
-link-next new u left w next row b t h i x y = go (ℕ-discrete x w)
-  where
-    at-w : (p q : Bool) → ((p || q) || ((true && not true) && q)) ≡ (p || (true && q))
-    at-w true q = refl
-    at-w false true = refl
-    at-w false false = refl
-
-    go : Dec (x ≡ w) → (has (getD (set new w row) x zero) y || (has next x && eqb u y)) ≡ (has (getD new x zero) y || (has left x && eqb u y))
-    go (yes e) = rw (e, getD-set-same new w row zero b, i y, h w, T→true (has left w) t, eqb-same w) (at-w (has (getD new w zero) y) (eqb u y))
-    go (no q) = rw (getD-set-other new w x row zero q, h x, ne-eqb w x (λ e. q (sym e)), and-true (has left x))
 
 module _ {cap : ℕ} (h r : Node) (u v : ℕ) (p : PairAt cap h u v) where
   lu : has (h .live) u ≡ true
