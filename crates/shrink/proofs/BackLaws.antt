@@ -40,7 +40,7 @@ all-below m l h =
 module _ (n : ℕ) (clash : ℕ → ℕ → Bool) where
   -- s groups the entries of p without a clash
   pub record Fits (p : ℕ → Bool) (s : Seating) : Type 0 where
-    pub long : length (s .group) ≡ n
+    pub long : n ≤ length (s .group)
     pub below : (x : ℕ) → x < n → T (p x) → at (s .group) x < s .many
     pub apart : (x y : ℕ) → x < n → y < n → T (p x) → T (p y) → T (clash x y) → at (s .group) x ≢ at (s .group) y
 
@@ -55,7 +55,7 @@ module _ (n : ℕ) (clash : ℕ → ℕ → Bool) where
       -- v goes where nobody clashes with it
       into-fits : ((y : ℕ) → y < n → T (without v p y) → T (clash v y) → at (s .group) y ≢ j) → Fits p (into v j s)
       into-fits free = record {
-        long = length-set (s .group) v j ∙ f .long;
+        long = omega (arith, length-set (s .group) v j, f .long);
         below = λ x a t. low x a t (ℕ-discrete x v);
         apart = λ x y a c t u k. clear x y a c t u k (ℕ-discrete x v) (ℕ-discrete y v);
       }
@@ -208,7 +208,7 @@ module _ (n : ℕ) (clash : ℕ → ℕ → Bool) where
 
     pub spread-fits : length c ≡ length l → T (clashFree (length l) (among l clash) c) → Fits p (spread n l c)
     spread-fits e t = record {
-      long = length-table (λ x. at c (place ℕ-discrete x l)) n;
+      long = omega (arith, length-table (λ x. at c (place ℕ-discrete x l)) n);
       below = λ x b h. let i = place-in ℕ-discrete x l (members-In p n x b h) in
           omega (arith, spread-at x b, canon-below 0 c (place ℕ-discrete x l) (omega arith));
       apart = λ x y a b h k u z.

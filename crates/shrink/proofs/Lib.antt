@@ -3,6 +3,7 @@ pub mod Places
 pub mod Sizes
 pub mod RuleLaws
 pub mod BackLaws
+pub mod Alike
 pub mod Whole
 pub mod OneRule
 pub mod Demands

@@ -2,7 +2,7 @@
 use mathlib.Core.Path.{_≡_, refl, sym, ap, ap₂, _∙_}
 use mathlib.Core.Logic.{inl, inr, _≢_}
 use mathlib.Core.Bool.{Bool, not, _&&_, _||_}
-use mathlib.Core.List.{List, [], _∷_}
+use mathlib.Core.List.{List, [], _∷_, _++_}
 use mathlib.Core.Option.{Option, none, some}
 use Prim.Native.Nat.{ℕ, zero, suc, _≤_, _<_}
 use native.Mathlib.Omega.{arith}
@@ -29,6 +29,11 @@ module _ (v : ℕ) (p : ℕ → Bool) (x : ℕ) where
 pub left-in : (p : ℕ → Bool) (rs : List Removal) (x : ℕ) → T (left p rs x) → T (p x)
 left-in p [] x t = t
 left-in p (r ∷ rs) x t = in-without (entry r) p x (left-in (without (entry r) p) rs x t)
+
+-- one more has gone
+pub left-more : (p : ℕ → Bool) (rs : List Removal) (r : Removal) → left p (rs ++ r ∷ []) ≡ without (entry r) (left p rs)
+left-more p [] r = refl
+left-more p (x ∷ rs) r = left-more (without (entry x) p) rs r
 
 module _ (L n : ℕ) (clash : ℕ → ℕ → Bool) where
   -- ---- what a removal has
@@ -115,6 +120,16 @@ module _ (L n : ℕ) (clash : ℕ → ℕ → Bool) where
         (lowest-none (hasFew n clash p L) n (λ v b t. f v b (and-l (p v) (ltb (clashing n clash p v) L) t)))
 
   -- ---- the removals
+
+  pub removals-next : (m : ℕ) (p : ℕ → Bool) (r : Removal) → next n clash p L ≡ some r
+      → removals L n clash (suc m) p ≡ r ∷ removals L n clash m (without (entry r) p)
+  unfolding removals
+  removals-next m p r e = ap (λ (o : Option Removal). onward p o (removals L n clash m)) e
+
+  pub removals-none : (m : ℕ) (p : ℕ → Bool) → next n clash p L ≡ none → removals L n clash m p ≡ []
+  unfolding removals
+  removals-none zero p e = refl
+  removals-none (suc m) p e = ap (λ (o : Option Removal). onward p o (removals L n clash m)) e
 
   pub removals-steps : (m : ℕ) (p : ℕ → Bool) → Steps p (removals L n clash m p)
   unfolding removals
