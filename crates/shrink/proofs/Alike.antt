@@ -17,8 +17,9 @@ use Rattle.clashes.specs.Matrix.{Valid}
 use Rattle.clashes.specs.Divisions.{at, division}
 use Rattle.shrink.specs.Rules.{Removal, covered, few, entry, without, orElse, left, everyone}
 use Rattle.shrink.specs.Back.{Seating, into, admits, home, put, back}
-use Rattle.shrink.proofs.RuleLaws.{without-in, Goes, Steps}
-use Rattle.shrink.proofs.BackLaws.{Fits, back-fits}
+use Rattle.shrink.specs.Steps.{Allowed, Steps, Fits}
+use Rattle.shrink.proofs.RuleLaws.{without-in}
+use Rattle.shrink.proofs.BackLaws.{back-fits}
 
 all-agree : (n : ℕ) (p q : ℕ → Bool) → ((i : ℕ) → i < n → p i ≡ q i) → all n p ≡ all n q
 all-agree zero p q h = refl
@@ -72,7 +73,7 @@ module _ (n : ℕ) (clash : ℕ → ℕ → Bool) where
           getD-set-other (s .group) v x i 0 q ∙ a .group x c (without-in v p x h q) ∙ sym (getD-set-other (t .group) v x j 0 q)
 
   module _ (L : ℕ) (valid : Valid n clash) where
-    put-alike : (p : ℕ → Bool) (r : Removal) → Goes L n clash p r → (s t : Seating) → Alike (without (entry r) p) s t
+    put-alike : (p : ℕ → Bool) (r : Removal) → Allowed L n clash p r → (s t : Seating) → Alike (without (entry r) p) s t
         → n ≤ length (s .group) → n ≤ length (t .group) → Alike p (put n clash (without (entry r) p) r s) (put n clash (without (entry r) p) r t)
     put-alike p (covered v u) g s t a ls lt =
         into-alike p v _ _ s t a (a .group u (g .other-below) (without-in v p u (g .other) (g .differ))) (g .below) ls lt

@@ -24,7 +24,8 @@ use Rattle.clashes.proofs.ColouringLaws.{canon-below, free-proper}
 use Rattle.shrink.specs.Rules.{Removal, covered, few, entry, without, orElse, clashing, left, among}
 use Rattle.shrink.specs.Back.{Seating, into, admits, home, put, back, spread}
 use Rattle.shrink.specs.Shrunk.{isFew, fewest}
-use Rattle.shrink.proofs.RuleLaws.{without-in, in-without, without-other, left-in, Goes, Steps}
+use Rattle.shrink.specs.Steps.{Allowed, Steps, Fits}
+use Rattle.shrink.proofs.RuleLaws.{without-in, in-without, without-other, left-in}
 
 every-below : (m : ℕ) → count (λ (j : ℕ). true) (upto m) ≡ m
 unfolding upto
@@ -38,13 +39,7 @@ all-below m l h =
     (noDup-le (members (λ j. true) m) l (members-noDup (λ j. true) m) (λ j i. h j (In-members (λ j. true) m j i .0)))
 
 module _ (n : ℕ) (clash : ℕ → ℕ → Bool) where
-  -- s groups the entries of p without a clash
-  pub record Fits (p : ℕ → Bool) (s : Seating) : Type 0 where
-    pub long : n ≤ length (s .group)
-    pub below : (x : ℕ) → x < n → T (p x) → at (s .group) x < s .many
-    pub apart : (x y : ℕ) → x < n → y < n → T (p x) → T (p y) → T (clash x y) → at (s .group) x ≢ at (s .group) y
-
-  module _ (valid : Valid n clash) (p : ℕ → Bool) (v : ℕ) (b : v < n) (s : Seating) (f : Fits (without v p) s) where
+  module _ (valid : Valid n clash) (p : ℕ → Bool) (v : ℕ) (b : v < n) (s : Seating) (f : Fits n clash (without v p) s) where
     module _ (j : ℕ) where
       at-v : (x : ℕ) → x ≡ v → at (into v j s .group) x ≡ j
       at-v x e = ap (at (into v j s .group)) e ∙ getD-set-same (s .group) v j 0 (omega (arith, f .long))
@@ -53,7 +48,7 @@ module _ (n : ℕ) (clash : ℕ → ℕ → Bool) where
       at-other x q = getD-set-other (s .group) v x j 0 q
 
       -- v goes where nobody clashes with it
-      into-fits : ((y : ℕ) → y < n → T (without v p y) → T (clash v y) → at (s .group) y ≢ j) → Fits p (into v j s)
+      into-fits : ((y : ℕ) → y < n → T (without v p y) → T (clash v y) → at (s .group) y ≢ j) → Fits n clash p (into v j s)
       into-fits free = record {
         long = omega (arith, length-set (s .group) v j, f .long);
         below = λ x a t. low x a t (ℕ-discrete x v);
@@ -132,10 +127,10 @@ module _ (n : ℕ) (clash : ℕ → ℕ → Bool) where
     atMost (few v) m = max L m
 
     record Put (p : ℕ → Bool) (r : Removal) (s t : Seating) : Type 0 where
-      fits : Fits p t
+      fits : Fits n clash p t
       many : t .many ≤ atMost r (s .many)
 
-    put-is : (p : ℕ → Bool) (r : Removal) → Goes L n clash p r → (s : Seating) → Fits (without (entry r) p) s
+    put-is : (p : ℕ → Bool) (r : Removal) → Allowed L n clash p r → (s : Seating) → Fits n clash (without (entry r) p) s
         → Put p r s (put n clash (without (entry r) p) r s)
     put-is p (covered v u) g s f = record {
       fits = into-fits valid p v (g .below) s f (at (s .group) u)
@@ -163,13 +158,13 @@ module _ (n : ℕ) (clash : ℕ → ℕ → Bool) where
         go true = omega arith
         go false = omega arith
 
-    pub back-fits : (p : ℕ → Bool) (rs : List Removal) → Steps L n clash p rs → (s : Seating) → Fits (left p rs) s → Fits p (back n clash p rs s)
+    pub back-fits : (p : ℕ → Bool) (rs : List Removal) → Steps L n clash p rs → (s : Seating) → Fits n clash (left p rs) s → Fits n clash p (back n clash p rs s)
     unfolding back
     back-fits p [] g s f = f
     back-fits p (r ∷ rs) g s f =
         put-is p r (g .0) (back n clash (without (entry r) p) rs s) (back-fits (without (entry r) p) rs (g .1) s f) .fits
 
-    pub back-many : (p : ℕ → Bool) (rs : List Removal) → Steps L n clash p rs → (s : Seating) → Fits (left p rs) s
+    pub back-many : (p : ℕ → Bool) (rs : List Removal) → Steps L n clash p rs → (s : Seating) → Fits n clash (left p rs) s
         → back n clash p rs s .many ≤ fewest L rs (s .many)
     unfolding back
     back-many p [] g s f = le-refl (s .many)
@@ -206,7 +201,7 @@ module _ (n : ℕ) (clash : ℕ → ℕ → Bool) where
     pub spread-at : (x : ℕ) → x < n → at (spread n l c .group) x ≡ at c (place ℕ-discrete x l)
     spread-at x b = getD-table (λ x. at c (place ℕ-discrete x l)) n 0 x b
 
-    pub spread-fits : length c ≡ length l → T (clashFree (length l) (among l clash) c) → Fits p (spread n l c)
+    pub spread-fits : length c ≡ length l → T (clashFree (length l) (among l clash) c) → Fits n clash p (spread n l c)
     spread-fits e t = record {
       long = omega (arith, length-table (λ x. at c (place ℕ-discrete x l)) n);
       below = λ x b h. let i = place-in ℕ-discrete x l (members-In p n x b h) in

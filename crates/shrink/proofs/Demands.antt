@@ -22,7 +22,8 @@ use Rattle.zykov.specs.Bound.{IsBound}
 use Rattle.zykov.proofs.Demands.{bounded-division, bounded-free, bounded-chromatic, bounded-count}
 use Rattle.shrink.specs.Rules.{next, left, everyone, gone}
 use Rattle.shrink.specs.Shrunk.{fewest, shrunkSize, shrunkClash, whole, shrunkOf, shrunkWalk}
-use Rattle.shrink.proofs.RuleLaws.{Steps, removals-steps, gone-end}
+use Rattle.shrink.specs.Steps.{Steps}
+use Rattle.shrink.proofs.RuleLaws.{removals-steps, gone-end}
 use Rattle.shrink.proofs.BackLaws.{few-most}
 use Rattle.shrink.proofs.Whole as laws
 

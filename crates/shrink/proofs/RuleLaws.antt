@@ -12,6 +12,7 @@ use Rattle.sets.specs.Lists.{count, all, any, upto, lowest}
 use Rattle.sets.proofs.TestLaws.{and-l, and-r, and-t, and-true, or-cases, eqb-of, all-get, any-get}
 use Rattle.sets.proofs.MemberLaws.{count-few, count-out, lowest-none, IsLeast, Lowest, found, nowhere, lowest-cases}
 use Rattle.clashes.specs.Matrix.{LowestRow, NoRow}
+use Rattle.shrink.specs.Steps.{Covered, Allowed, Steps}
 use Rattle.shrink.specs.Rules.{Removal, covered, few, entry, without, orElse, covers, isCovered, clashing, hasFew, choose, next, onward, removals, left, everyone}
 
 -- ---- who is present
@@ -36,30 +37,6 @@ left-more p [] r = refl
 left-more p (x ∷ rs) r = left-more (without (entry x) p) rs r
 
 module _ (L n : ℕ) (clash : ℕ → ℕ → Bool) where
-  -- ---- what a removal has
-
-  pub record Covered (p : ℕ → Bool) (v u : ℕ) : Type 0 where
-    pub below : v < n
-    pub here : T (p v)
-    pub other-below : u < n
-    pub other : T (p u)
-    pub differ : u ≢ v
-    pub shared : (w : ℕ) → w < n → T (p w) → T (clash v w) → T (clash u w)
-
-  pub record Few (p : ℕ → Bool) (v : ℕ) : Type 0 where
-    pub below : v < n
-    pub here : T (p v)
-    pub less : clashing n clash p v < L
-
-  abbrev pub Goes : (ℕ → Bool) → Removal → Type 0
-  Goes p (covered v u) = Covered p v u
-  Goes p (few v) = Few p v
-
-  -- each of rs may go when those before it have gone
-  abbrev pub Steps : (ℕ → Bool) → List Removal → Type 0
-  Steps p [] = Unit {0}
-  Steps p (r ∷ rs) = Goes p r × Steps (without (entry r) p) rs
-
   -- "Each time the lowest entry that meets the first rule goes", with the lowest such other; "where none does, the lowest that meets the second; until
   -- neither applies"
   abbrev pub Next : (ℕ → Bool) → Option Removal → Type 0
@@ -67,12 +44,12 @@ module _ (L n : ℕ) (clash : ℕ → ℕ → Bool) where
   Next p (some (few v)) = NoRow (λ x. T (isCovered n clash p x)) n × LowestRow (λ x. T (hasFew n clash p L x)) n v
   Next p none = NoRow (λ x. T (isCovered n clash p x)) n × NoRow (λ x. T (hasFew n clash p L x)) n
 
-  goes-entry : (p : ℕ → Bool) (r : Removal) → Goes p r → (entry r < n) × T (p (entry r))
-  goes-entry p (covered v u) g = (g .below, g .here)
-  goes-entry p (few v) g = (g .below, g .here)
+  allowed-entry : (p : ℕ → Bool) (r : Removal) → Allowed L n clash p r → (entry r < n) × T (p (entry r))
+  allowed-entry p (covered v u) g = (g .below, g .here)
+  allowed-entry p (few v) g = (g .below, g .here)
 
   module _ (p : ℕ → Bool) where
-    covers-is : (v u : ℕ) → v < n → T (p v) → u < n → T (covers n clash p v u) → Covered p v u
+    covers-is : (v u : ℕ) → v < n → T (p v) → u < n → T (covers n clash p v u) → Covered n clash p v u
     covers-is v u b t c h =
         let all? : ℕ → Bool = λ w. not (p w && clash v w) || clash u w in
         let r = and-r (p u) (not (eqb v u) && all n all?) h in
@@ -104,9 +81,9 @@ module _ (L n : ℕ) (clash : ℕ → ℕ → Bool) where
         go o q (nowhere f) (found v l) = (f, low (hasFew n clash p L) v l)
         go o q (nowhere f) (nowhere g) = (f, g)
 
-    next-goes : (r : Removal) → Next p (some r) → Goes p r
-    next-goes (covered v u) h = covers-is v u (h .0 .below) (and-l (p v) (any n (covers n clash p v)) (h .0 .here)) (h .1 .below) (h .1 .here)
-    next-goes (few v) h = record {
+    next-allowed : (r : Removal) → Next p (some r) → Allowed L n clash p r
+    next-allowed (covered v u) h = covers-is v u (h .0 .below) (and-l (p v) (any n (covers n clash p v)) (h .0 .here)) (h .1 .below) (h .1 .here)
+    next-allowed (few v) h = record {
       below = h .1 .below;
       here = and-l (p v) (ltb (clashing n clash p v) L) (h .1 .here);
       less = ltb→lt (clashing n clash p v) L (and-r (p v) (ltb (clashing n clash p v) L) (h .1 .here));
@@ -131,14 +108,14 @@ module _ (L n : ℕ) (clash : ℕ → ℕ → Bool) where
   removals-none zero p e = refl
   removals-none (suc m) p e = ap (λ (o : Option Removal). onward p o (removals L n clash m)) e
 
-  pub removals-steps : (m : ℕ) (p : ℕ → Bool) → Steps p (removals L n clash m p)
+  pub removals-steps : (m : ℕ) (p : ℕ → Bool) → Steps L n clash p (removals L n clash m p)
   unfolding removals
   removals-steps zero p = tt
   removals-steps (suc m) p = go (next n clash p L) (next-is p) (removals-steps m)
     where
-      go : (o : Option Removal) → Next p o → ((q : ℕ → Bool) → Steps q (removals L n clash m q)) → Steps p (onward p o (removals L n clash m))
+      go : (o : Option Removal) → Next p o → ((q : ℕ → Bool) → Steps L n clash q (removals L n clash m q)) → Steps L n clash p (onward p o (removals L n clash m))
       go none h r = tt
-      go (some x) h r = (next-goes p x h, r (without (entry x) p))
+      go (some x) h r = (next-allowed p x h, r (without (entry x) p))
 
   fewer : (p : ℕ → Bool) (v : ℕ) → v < n → T (p v) → suc (count (without v p) (upto n)) ≡ count p (upto n)
   fewer p v b t =
@@ -154,7 +131,7 @@ module _ (L n : ℕ) (clash : ℕ → ℕ → Bool) where
           → ((q : ℕ → Bool) → count q (upto n) ≤ m → next n clash (left q (removals L n clash m q)) L ≡ none)
           → next n clash (left p (onward p o (removals L n clash m))) L ≡ none
       go none e h r = e
-      go (some x) e h r = let t = goes-entry p x (next-goes p x h) in r (without (entry x) p) (omega (arith, fewer p (entry x) (t .0) (t .1)))
+      go (some x) e h r = let t = allowed-entry p x (next-allowed p x h) in r (without (entry x) p) (omega (arith, fewer p (entry x) (t .0) (t .1)))
 
   pub gone-end : next n clash (left (everyone n) (removals L n clash n (everyone n))) L ≡ none
   gone-end = removals-end n (everyone n) (count-few (everyone n) n)

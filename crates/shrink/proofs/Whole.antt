@@ -25,8 +25,8 @@ use Rattle.clashes.proofs.Meaning.{divisions-have, divisions-are, divisions-onc
 use Rattle.shrink.specs.Rules.{Removal, left, everyone, among}
 use Rattle.shrink.specs.Back.{Seating, back, spread}
 use Rattle.shrink.specs.Shrunk.{isFew, fewest}
-use Rattle.shrink.proofs.RuleLaws.{Steps}
-use Rattle.shrink.proofs.BackLaws.{Fits, back-fits, back-many, back-keeps, spread-at, spread-fits}
+use Rattle.shrink.specs.Steps.{Steps, Fits}
+use Rattle.shrink.proofs.BackLaws.{back-fits, back-many, back-keeps, spread-at, spread-fits}
 
 -- ---- lists
 

@@ -2,3 +2,4 @@
 pub mod Rules
 pub mod Back
 pub mod Shrunk
+pub mod Steps

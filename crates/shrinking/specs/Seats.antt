@@ -1,0 +1,68 @@
+-- Putting back on words: what the functions promise that group those who stayed, put back who went, and number the groups.
+--
+--   seatingOf h                : the groups that h holds
+--   Sets cap p group sets      : each group's set has its present members, where `group` has each entry's group
+--   Clear a b                  : the sets a and b have no member in common
+--   Taken cap s c              : the first of c, one for each member of s, are group numbers
+--   Spread cap s c many h      : h has `many` groups, and each member of s in the group that c has at its place
+--   Returning cap rows s h     : those who went by s may be put back into h: each was removed by a rule, who stayed is in h without a clash, and there is room
+--                                for as many new groups
+--   Returned cap rows s h r    : r is h with all put back, the last first
+--   Standing cap n h room      : n entries are in h, and there are as many bytes for their groups
+--
+-- `cap` is how many entries there may be. Assumes nothing.
+use mathlib.Core.Path.{_≡_}
+use mathlib.Core.Bool.{Bool, _&&_}
+use mathlib.Core.List.{List}
+use Prim.Native.Nat.{ℕ, _+_, _≤_, _<_}
+use native.Mathlib.Decide.{ℕ-discrete}
+use lib.Dec.{T, eqb, ltb}
+use lib.ListN.{length}
+use Rattle.sets.specs.Set.{has, size}
+use Rattle.clashes.specs.Labels.{place}
+use Rattle.clashes.specs.Matrix.{matrix, Valid}
+use Rattle.clashes.specs.Divisions.{at}
+use Rattle.shrink.specs.Rules.{left, everyone}
+use Rattle.shrink.specs.Back.{Seating, back}
+use Rattle.shrink.specs.Steps.{Steps, Fits}
+use Rattle.shrinking.specs.Words.{removed, names}
+use Rattle.shrinking.specs.declared.Shrunk.{Shrunk}
+use Rattle.shrinking.specs.declared.Seats.{Seats}
+
+abbrev pub seatingOf : Seats → Seating
+seatingOf h = record { many = h .many; group = h .group }
+
+abbrev pub Sets : ℕ → (ℕ → Bool) → List ℕ → List ℕ → Type 0
+Sets cap p group sets = (j x : ℕ) → j < cap → has (at sets j) x ≡ (p x && eqb (at group x) j)
+
+abbrev pub Clear : ℕ → ℕ → Type 0
+Clear a b = (x : ℕ) → T (has a x) → ¬ T (has b x)
+
+abbrev pub Taken : ℕ → ℕ → List ℕ → Type 0
+Taken cap s c = (i : ℕ) → i < size cap s → at c i < cap
+
+pub record Spread (cap s : ℕ) (c : List ℕ) (many : ℕ) (h : Seats) : Type 0 where
+  pub many-is : h .many ≡ many
+  pub long : length (h .group) ≡ cap
+  pub group : (x : ℕ) → x < cap → T (has s x) → at (h .group) x ≡ at c (place ℕ-discrete x (names cap s))
+  pub sets : Sets cap (has s) (h .group) (h .sets)
+
+module _ (cap : ℕ) (rows : List ℕ) (s : Shrunk) (h : Seats) where
+  pub record Returning : Type 0 where
+    pub few : length rows ≤ cap
+    pub valid : Valid (length rows) (matrix rows)
+    pub bound : ℕ
+    pub steps : Steps bound (length rows) (matrix rows) (everyone (length rows)) (removed (s .who) (s .other) (s .gone))
+    pub fits : Fits (length rows) (matrix rows) (left (everyone (length rows)) (removed (s .who) (s .other) (s .gone))) (seatingOf h)
+    pub sets : Sets cap (left (everyone (length rows)) (removed (s .who) (s .other) (s .gone))) (h .group) (h .sets)
+    pub room : h .many + s .gone ≤ length rows
+
+  pub record Returned (r : Seats) : Type 0 where
+    pub is : seatingOf r ≡ back (length rows) (matrix rows) (everyone (length rows)) (removed (s .who) (s .other) (s .gone)) (seatingOf h)
+    pub sets : Sets cap (everyone (length rows)) (r .group) (r .sets)
+
+pub record Standing (cap n : ℕ) (h : Seats) (room : ℕ) : Type 0 where
+  pub few : n ≤ cap
+  pub bytes : n ≤ room
+  pub below : (x : ℕ) → x < n → at (h .group) x < cap
+  pub sets : Sets cap (λ x. ltb x n) (h .group) (h .sets)
