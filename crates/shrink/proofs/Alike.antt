@@ -25,9 +25,9 @@ all-agree : (n : ℕ) (p q : ℕ → Bool) → ((i : ℕ) → i < n → p i ≡ 
 all-agree zero p q h = refl
 all-agree (suc n) p q h = ap₂ (λ (a b : Bool). a && b) (all-agree n p q (λ i b. h i (omega arith))) (h n (omega arith))
 
-table-agree : (n : ℕ) (f g : ℕ → ℕ) → ((i : ℕ) → i < n → f i ≡ g i) → table f n ≡ table g n
+pub table-agree : {A : Type 0} (n : ℕ) (f g : ℕ → A) → ((i : ℕ) → i < n → f i ≡ g i) → table f n ≡ table g n
 table-agree zero f g h = refl
-table-agree (suc n) f g h = ap₂ (λ (x : ℕ) (l : List ℕ). x ∷ l) (h zero (omega arith)) (table-agree n (λ i. f (suc i)) (λ i. g (suc i)) (λ i b. h (suc i) (omega arith)))
+table-agree (suc n) f g h = ap₂ (λ x l. x ∷ l) (h zero (omega arith)) (table-agree n (λ i. f (suc i)) (λ i. g (suc i)) (λ i b. h (suc i) (omega arith)))
 
 -- labels that are equal below n have one division
 pub division-agree : (n : ℕ) (f g : ℕ → ℕ) → ((i : ℕ) → i < n → f i ≡ g i) → division ℕ-discrete n f ≡ division ℕ-discrete n g

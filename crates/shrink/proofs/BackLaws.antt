@@ -27,7 +27,7 @@ use Rattle.shrink.specs.Shrunk.{isFew, fewest}
 use Rattle.shrink.specs.Steps.{Allowed, Steps, Fits}
 use Rattle.shrink.proofs.RuleLaws.{without-in, in-without, without-other, left-in}
 
-every-below : (m : ℕ) → count (λ (j : ℕ). true) (upto m) ≡ m
+pub every-below : (m : ℕ) → count (λ (j : ℕ). true) (upto m) ≡ m
 unfolding upto
 every-below zero = refl
 every-below (suc m) = omega (arith, count-upto (λ j. true) m, every-below m)
@@ -178,6 +178,15 @@ module _ (n : ℕ) (clash : ℕ → ℕ → Bool) where
           back-many (without v p) rs (g .1) s f,
           few-most rs (s .many),
         )
+
+  pub back-none : (p : ℕ → Bool) (s : Seating) → back n clash p [] s ≡ s
+  unfolding back
+  back-none p s = refl
+
+  pub back-more : (p : ℕ → Bool) (r : Removal) (rs : List Removal) (s : Seating)
+      → back n clash p (r ∷ rs) s ≡ put n clash (without (entry r) p) r (back n clash (without (entry r) p) rs s)
+  unfolding back
+  back-more p r rs s = refl
 
   -- who never went keeps its group
   put-keeps : (p : ℕ → Bool) (r : Removal) (s : Seating) (x : ℕ) → x ≢ entry r → at (put n clash p r s .group) x ≡ at (s .group) x

@@ -44,7 +44,7 @@ module _ (L n : ℕ) (clash : ℕ → ℕ → Bool) where
   Next p (some (few v)) = NoRow (λ x. T (isCovered n clash p x)) n × LowestRow (λ x. T (hasFew n clash p L x)) n v
   Next p none = NoRow (λ x. T (isCovered n clash p x)) n × NoRow (λ x. T (hasFew n clash p L x)) n
 
-  allowed-entry : (p : ℕ → Bool) (r : Removal) → Allowed L n clash p r → (entry r < n) × T (p (entry r))
+  pub allowed-entry : (p : ℕ → Bool) (r : Removal) → Allowed L n clash p r → (entry r < n) × T (p (entry r))
   allowed-entry p (covered v u) g = (g .below, g .here)
   allowed-entry p (few v) g = (g .below, g .here)
 
@@ -81,7 +81,7 @@ module _ (L n : ℕ) (clash : ℕ → ℕ → Bool) where
         go o q (nowhere f) (found v l) = (f, low (hasFew n clash p L) v l)
         go o q (nowhere f) (nowhere g) = (f, g)
 
-    next-allowed : (r : Removal) → Next p (some r) → Allowed L n clash p r
+    pub next-allowed : (r : Removal) → Next p (some r) → Allowed L n clash p r
     next-allowed (covered v u) h = covers-is v u (h .0 .below) (and-l (p v) (any n (covers n clash p v)) (h .0 .here)) (h .1 .below) (h .1 .here)
     next-allowed (few v) h = record {
       below = h .1 .below;

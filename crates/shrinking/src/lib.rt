@@ -13,7 +13,8 @@ use sets::without;
 use walk::Answer;
 use walk::fewest;
 ghost use mathlib.Core.Path.{_≡_};
-ghost use mathlib.Core.Bool.{cond};
+ghost use mathlib.Core.Bool.{cond, _||_};
+ghost use lib.Dec.{eqb};
 ghost use mathlib.Core.Option.{none};
 ghost use mathlib.Core.List.{_++_};
 ghost use Prim.Native.Nat.{_≤_, _<_, suc, max};
@@ -29,7 +30,7 @@ ghost use Rattle.walk.specs.Promise.{Open, Promised};
 ghost use Rattle.shrink.specs.Rules.{isCovered, hasFew, choose, next as nextOf};
 ghost use Rattle.shrink.specs.Shrunk.{shrunkWalk};
 ghost use Rattle.shrinking.specs.Words.{Entries, Listed, Sharing, goesOf, Shrank, Placed, Packed, Small};
-ghost use Rattle.shrinking.specs.Seats.{Clear, Taken, Spread, Returning, Returned, Standing};
+ghost use Rattle.shrinking.specs.Seats.{Clear, Seat, Taken, Spread, Returning, Returned, Standing};
 
 // Who goes next, if anyone does, and the other entry that is noted: itself, where it goes by the second rule.
 struct Goes {
@@ -106,6 +107,7 @@ fn first_covered(rows: &[u64], present: u64) -> Goes
 
 // The lowest present entry with fewer clashes than `bound`.
 fn first_few(rows: &[u64], present: u64, bound: usize) -> Goes
+    requires { ⌜ length (now rows) ≤ 64 ⌝ }
     requires { ⌜ Listed (now rows) present ⌝ }
     ensures {
         λ r. ⌜ goesOf r ≡ choose (length (now (rows .entry))) (matrix (now (rows .entry))) (member present) none
@@ -136,6 +138,7 @@ fn first_few(rows: &[u64], present: u64, bound: usize) -> Goes
 
 // Who goes next: by the first rule, or, where nobody meets it, by the second.
 fn next(rows: &[u64], present: u64, bound: usize) -> Goes
+    requires { ⌜ length (now rows) ≤ 64 ⌝ }
     requires { ⌜ Listed (now rows) present ⌝ }
     ensures { λ r. ⌜ goesOf r ≡ nextOf (length (now (rows .entry))) (matrix (now (rows .entry))) (member present) bound ⌝ }
 {
@@ -144,6 +147,16 @@ fn next(rows: &[u64], present: u64, bound: usize) -> Goes
         return first;
     }
     first_few(rows, present, bound)
+}
+
+// Has the second rule been used: before, or now that v is noted with u?
+fn second(few: bool, v: usize, u: usize) -> bool
+    ensures { λ r. ⌜ r ≡ (few || eqb v u) ⌝ }
+{
+    if v == u {
+        return true;
+    }
+    few
 }
 
 // Entries go until neither rule applies.
@@ -162,7 +175,7 @@ fn shrink(rows: &[u64], bound: usize) -> Shrunk
         let u = goes.other;
         who[gone] = v as u8;
         other[gone] = u as u8;
-        few = few || v == u;
+        few = second(few, v, u);
         gone += 1;
         present = without(present, v);
         goes = next(rows, present, bound);
@@ -268,6 +281,17 @@ fn home(row: u64, sets: &[u64; 64], many: usize) -> usize
     j
 }
 
+// The group that v is put into, where u was noted with it.
+fn seat(rows: &[u64], v: usize, u: usize, group: &[u8; 64], sets: &[u64; 64], many: usize) -> usize
+    requires { ⌜ (v < length (now rows)) × (u < 64) × (many ≤ 64) ⌝ }
+    ensures { λ r. ⌜ Seat (now (rows .entry)) v u (now (group .entry)) (now (sets .entry)) many r ⌝ }
+{
+    if v == u {
+        return home(rows[v], sets, many);
+    }
+    group[u] as usize
+}
+
 // How many groups there are of `many` once somebody is in group j.
 fn more(many: usize, j: usize) -> usize
     requires { ⌜ j < 64 ⌝ }
@@ -281,8 +305,8 @@ fn more(many: usize, j: usize) -> usize
 
 // Who went is put back, the last first: into the noted entry's group, or, where it was noted with itself, into the lowest group that admits it or a new one.
 fn put_back(rows: &[u64], s: Shrunk, seats: Seats) -> Seats
-    requires { ⌜ Returning 64 (now rows) s seats ⌝ }
-    ensures { λ r. ⌜ Returned 64 (now (rows .entry)) s seats r ⌝ }
+    requires { ⌜ Returning 64 (now rows) (s .who) (s .other) (s .gone) seats ⌝ }
+    ensures { λ r. ⌜ Returned 64 (now (rows .entry)) (s .who) (s .other) (s .gone) seats r ⌝ }
 {
     let gone = s.gone;
     let who = s.who;
@@ -296,10 +320,7 @@ fn put_back(rows: &[u64], s: Shrunk, seats: Seats) -> Seats
         let at = gone - back; // in reverse order
         let v = who[at] as usize;
         let u = other[at] as usize;
-        let mut j = group[u] as usize;
-        if u == v {
-            j = home(rows[v], &sets, many);
-        }
+        let j = seat(rows, v, u, &group, &sets, many);
         group[v] = j as u8;
         let members = with(sets[j], v);
         sets[j] = members;
@@ -348,7 +369,7 @@ fn larger(few: bool, bound: usize, k: usize) -> usize
 }
 
 // A list that is valid, with room for its colours, is shrunk by its bound, walked over and put back.
-fn shrunk(rows: &[u64], bound: usize, colours: &mut [u8], budget: u64) -> Answer
+fn walk_shrunk(rows: &[u64], bound: usize, colours: &mut [u8], budget: u64) -> Answer
     requires { ⌜ Open (now rows) (length (now colours)) ⌝ }
     requires { ⌜ bound ≡ ofList mycielskian (now rows) ⌝ }
     ensures { λ r. ⌜ Promised (shrunkWalk mycielskian) (now (rows .entry)) (now (colours .entry)) budget r (now (colours .exit)) ⌝ }
@@ -382,7 +403,7 @@ pub fn fewest_shrunk(rows: &[u64], colours: &mut [u8], budget: u64) -> Answer
             if colours.len() < rows.len() {
                 return Answer::Short;
             }
-            shrunk(rows, bound, colours, budget)
+            walk_shrunk(rows, bound, colours, budget)
         }
     }
 }
