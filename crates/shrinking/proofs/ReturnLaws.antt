@@ -74,15 +74,15 @@ module _ (cap : ℕ) (rows who other : List ℕ) (all : ℕ) (h : Seats) (g : Re
   abbrev here : ℕ → ℕ → Bool
   here i = hereAt rows who other i
 
-  pub returns-start : length (h .group) ≡ cap → length (h .sets) ≡ cap → Returns cap rows who other all h all (h .group) (h .sets) (h .many)
-  returns-start a b = record {
+  pub returns-start : Returns cap rows who other all h all (h .group) (h .sets) (h .many)
+  returns-start = record {
     behind = [];
     split = append-nil (gone all);
     is = sym (back-none n clash (here all) (seatingOf h));
     held = g .sets;
     room = g .room;
-    long-group = a;
-    long-sets = b;
+    long-group = g .long-group;
+    long-sets = g .long-sets;
   }
 
   pub returns-end : (group sets : List ℕ) (many : ℕ) → Returns cap rows who other all h 0 group sets many

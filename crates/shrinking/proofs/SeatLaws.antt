@@ -9,7 +9,7 @@ use native.Mathlib.Decide.{ℕ-discrete, decLt}
 use native.Mathlib.Omega.{arith}
 use borrow.Author.Tests.{eq-eqb, ne-eqb}
 use lib.Dec.{T, eqb, ltb, eqb→eq, ltb→lt, lt→ltb, T-not, not-T}
-use lib.ListN.{length, getD, set, drop, replicate, length-set, getD-replicate, List·getD-append}
+use lib.ListN.{length, getD, set, drop, replicate, length-set, length-append, length-drop, getD-replicate, List·getD-append}
 use lib.Seq.{drop-cons, set-at, getD-set-same, getD-set-other}
 use Rattle.sets.specs.Lists.{all}
 use Rattle.sets.specs.Set.{has, size, IsWith, IsWithout, IsLowest}
@@ -156,7 +156,8 @@ module _ (cap s : ℕ) (c : List ℕ) where
   pub sitting-end : (group sets : List ℕ) (left i many : ℕ) → Sitting group sets left i → left ≡ 0 → Spread cap s c many (record { many = many; group = group; sets = sets })
   sitting-end group sets left i many k e = record {
     many-is = refl;
-    long = k .long-group;
+    long-group = k .long-group;
+    long-sets = k .long-sets;
     group = λ x b h. k .same x b h (nobody left x e);
     sets = λ j x b. k .held j x b ∙ ap (λ (t : Bool). (has s x && not t) && eqb (at group x) j) (ap (λ (m : ℕ). has m x) e ∙ has-none x)
         ∙ ap (λ (t : Bool). t && eqb (at group x) j) (and-true (has s x));
@@ -164,25 +165,31 @@ module _ (cap s : ℕ) (c : List ℕ) where
 
 -- ---- the groups are numbered by smallest member
 
-module _ (cap n : ℕ) (group sets before : List ℕ) (held : Sets cap (λ x. ltb x n) group sets) where
-  pub record Numbering (colours : List ℕ) (next i : ℕ) : Type 0 where
-    pub few : next ≤ i
-    pub many : next ≡ groups 0 (part (at group) i)
-    pub is : colours ≡ part (at group) i ++ drop i before
+-- the bytes below i are the groups of the entries below i, and next is how many they are; the others are as before
+pub record Numbering (group before colours : List ℕ) (next i : ℕ) : Type 0 where
+  pub few : next ≤ i
+  pub many : next ≡ groups 0 (part (at group) i)
+  pub is : colours ≡ part (at group) i ++ drop i before
 
-  pub numbering-start : Numbering before 0 0
+module _ (group before : List ℕ) where
+  pub numbering-start : Numbering group before before 0 0
   numbering-start = record { few = omega arith; many = refl; is = refl }
 
-  -- one more is written
-  write : (colours : List ℕ) (next i x : ℕ) → Numbering colours next i → i < length before → set colours i x ≡ (part (at group) i ++ x ∷ []) ++ drop (i + 1) before
-  write colours next i x k b =
-      ap (λ (l : List ℕ). set l i x) (k .is ∙ ap (λ (l : List ℕ). part (at group) i ++ l) (drop-cons before i 0 b))
-      ∙ set-at (part (at group) i) (at before i) (drop (suc i) before) x i (division-length ℕ-discrete i (at group))
-      ∙ ap (λ (m : ℕ). part (at group) i ++ x ∷ drop m before) (sym (add-one i)) ∙ sym (append-assoc (part (at group) i) (x ∷ []) (drop (i + 1) before))
+  module _ (colours : List ℕ) (next i : ℕ) (k : Numbering group before colours next i) where
+    pub numbering-long : i ≤ length before → length colours ≡ length before
+    numbering-long b =
+        ap length (k .is) ∙ length-append (part (at group) i) (drop i before)
+        ∙ ap₂ (λ (x y : ℕ). x + y) (division-length ℕ-discrete i (at group)) (length-drop i before) ∙ omega arith
 
-  module _ (colours : List ℕ) (next i w : ℕ) (k : Numbering colours next i) (b : i < n) (room : i < length before) (below : at group i < cap)
-      (low : IsLowest cap (at sets (at group i)) w) where
-    -- w is of i's group
+    -- one more is written
+    write : (x : ℕ) → i < length before → set colours i x ≡ (part (at group) i ++ x ∷ []) ++ drop (i + 1) before
+    write x b =
+        ap (λ (l : List ℕ). set l i x) (k .is ∙ ap (λ (l : List ℕ). part (at group) i ++ l) (drop-cons before i 0 b))
+        ∙ set-at (part (at group) i) (at before i) (drop (suc i) before) x i (division-length ℕ-discrete i (at group))
+        ∙ ap (λ (m : ℕ). part (at group) i ++ x ∷ drop m before) (sym (add-one i)) ∙ sym (append-assoc (part (at group) i) (x ∷ []) (drop (i + 1) before))
+
+module _ (cap n : ℕ) (group sets : List ℕ) (held : Sets cap (λ x. ltb x n) group sets) where
+  module _ (i : ℕ) (below : at group i < cap) where
     member : (x : ℕ) → T (has (at sets (at group i)) x) → (x < n) × (at group x ≡ at group i)
     member x t =
         let u = subst T (held (at group i) x below) t in
@@ -191,39 +198,44 @@ module _ (cap n : ℕ) (group sets before : List ℕ) (held : Sets cap (λ x. lt
     of-group : (x : ℕ) → x < n → at group x ≡ at group i → T (has (at sets (at group i)) x)
     of-group x c e = subst T (sym (held (at group i) x below)) (and-t (ltb x n) (eqb (at group x) (at group i)) (lt→ltb x n c) (eqb-of (at group x) (at group i) e))
 
-    pub smallest : w ≤ i
-    smallest = go (decLt i w)
-      where
-        go : Dec (i < w) → w ≤ i
-        go (yes c) = absurd (low .least i c (of-group i b refl))
-        go (no q) = omega arith
+  pub own-group : (i : ℕ) → i < n → at group i < cap → T (has (at sets (at group i)) i)
+  own-group i b below = of-group i below i b refl
 
-    pub numbering-opens : w ≡ i → Numbering (set colours i next) (next + 1) (i + 1)
+  pub smallest : (i w : ℕ) → i < n → at group i < cap → IsLowest cap (at sets (at group i)) w → w ≤ i
+  smallest i w b below low = go (decLt i w)
+    where
+      go : Dec (i < w) → w ≤ i
+      go (yes c) = absurd (low .least i c (own-group i b below))
+      go (no q) = omega arith
+
+  module _ (before colours : List ℕ) (next i w : ℕ) (k : Numbering group before colours next i) (b : i < n) (room : i < length before) (below : at group i < cap)
+      (low : IsLowest cap (at sets (at group i)) w) where
+    pub numbering-opens : w ≡ i → Numbering group before (set colours i next) (next + 1) (i + 1)
     numbering-opens e = record {
       few = omega (arith, k .few);
       many = add-one next ∙ ap suc (k .many) ∙ sym (groups-opens (at group) i new) ∙ ap (λ (m : ℕ). groups 0 (part (at group) m)) (sym (add-one i));
-      is = write colours next i next k room
+      is = write group before colours next i k next room
           ∙ ap (λ (l : List ℕ). l ++ drop (i + 1) before)
           (ap (λ (m : ℕ). part (at group) i ++ m ∷ []) (k .many) ∙ sym (part-opens (at group) i new) ∙ ap (part (at group)) (sym (add-one i)));
     }
       where
         new : (j : ℕ) → j < i → at group j ≢ at group i
-        new j c q = low .least j (omega arith) (of-group j (omega arith) q)
+        new j c q = low .least j (omega arith) (of-group i below j (omega arith) q)
 
-    pub numbering-joins : (w ≡ i → ⊥) → Numbering (set colours i (getD colours w 0)) next (i + 1)
+    pub numbering-joins : (w ≡ i → ⊥) → Numbering group before (set colours i (getD colours w 0)) next (i + 1)
     numbering-joins q = record {
       few = omega (arith, k .few);
       many = k .many ∙ sym (groups-joins (at group) i w before-i same) ∙ ap (λ (m : ℕ). groups 0 (part (at group) m)) (sym (add-one i));
-      is = write colours next i (getD colours w 0) k room
+      is = write group before colours next i k (getD colours w 0) room
           ∙ ap (λ (l : List ℕ). l ++ drop (i + 1) before)
           (ap (λ (m : ℕ). part (at group) i ++ m ∷ []) taken ∙ sym (part-joins (at group) i w before-i same) ∙ ap (part (at group)) (sym (add-one i)));
     }
       where
         before-i : w < i
-        before-i = omega (arith, smallest, q)
+        before-i = omega (arith, smallest i w b below low, q)
 
         same : at group w ≡ at group i
-        same = member w (low .member) .1
+        same = member i below w (low .member) .1
 
         taken : getD colours w 0 ≡ at (part (at group) i) w
         taken = ap (λ (l : List ℕ). getD l w 0) (k .is) ∙ List·getD-append (part (at group) i) (drop i before) 0 w (omega (arith, division-length ℕ-discrete i (at group), before-i))

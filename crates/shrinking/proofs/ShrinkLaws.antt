@@ -6,11 +6,12 @@ use mathlib.Core.List.{List, [], _∷_, _++_, append-assoc, append-nil}
 use mathlib.Core.Option.{Option, none, some}
 use Prim.Native.Nat.{ℕ, suc, _+_, _≤_, _<_}
 use native.Mathlib.Numerals.{add-one}
+use native.Mathlib.Decide.{ℕ-discrete}
 use native.Mathlib.Omega.{arith}
 use lib.Dec.{T, eqb, ltb, ltb→lt}
 use lib.ListN.{length, set, length-set}
 use lib.Seq.{getD-set-same, getD-set-other}
-use borrow.Author.Tests.{lt-ltb}
+use borrow.Author.Tests.{lt-ltb, ne-eqb}
 use Rattle.sets.specs.Lists.{count, table, upto, some?}
 use Rattle.sets.specs.Set.{has, size, IsWithout, IsBelow}
 use Rattle.sets.proofs.TestLaws.{and-l, or-turn, or-assoc}
@@ -21,6 +22,7 @@ use Rattle.clashes.specs.Matrix.{matrix}
 use Rattle.clashes.specs.Divisions.{at}
 use Rattle.shrink.specs.Rules.{Removal, covered, few, entry, without, next, removals, left, everyone, gone}
 use Rattle.shrink.specs.Shrunk.{isFew}
+use Rattle.shrink.specs.Steps.{Allowed}
 use Rattle.shrink.proofs.RuleLaws.{left-more, Next, next-is, next-allowed, allowed-entry, removals-next, removals-none}
 use Rattle.shrink.proofs.BackLaws.{every-below}
 use Rattle.shrink.proofs.Alike.{table-agree}
@@ -58,19 +60,22 @@ removed-next who other m v u a b =
     (λ i c. let q : i ≢ m = (λ e. let z : ⊥ = omega arith in z) in ap₂ removal (getD-set-other who m i v 0 q) (getD-set-other other m i u 0 q)))
     (ap₂ removal (getD-set-same who m v 0 a) (getD-set-same other m u 0 b))
 
+pub without-entries : (n present v present′ : ℕ) → Entries n present → IsWithout present v present′ → Entries n present′
+without-entries n present v present′ e w x t = e x (and-l (has present x) (not (eqb v x)) (subst T (w x) t))
+
 -- ---- the loop
 
 module _ (cap L : ℕ) (rows : List ℕ) (most : length rows ≤ cap) where
   abbrev n : ℕ
   n = length rows
 
-  pub record Going (who other : List ℕ) (few : Bool) (m present : ℕ) (g : Goes) : Type 0 where
+  pub record Going (who other : List ℕ) (used : Bool) (m present : ℕ) (g : Goes) : Type 0 where
     pub long-who : length who ≡ cap
     pub long-other : length other ≡ cap
     pub entries : Entries n present
     pub still : removed who other m ++ removals L n (matrix rows) (size n present) (has present) ≡ gone L n (matrix rows)
     pub stays : _≡_ {A = ℕ → Bool} (left (everyone n) (removed who other m)) (has present)
-    pub second : few ≡ some? isFew (removed who other m)
+    pub second : used ≡ some? isFew (removed who other m)
     pub all : m + size n present ≡ n
     pub turn : goesOf g ≡ next n (matrix rows) (has present) L
 
@@ -91,7 +96,7 @@ module _ (cap L : ℕ) (rows : List ℕ) (most : length rows ≤ cap) where
       full : size n present ≡ n
       full = count-agree n (has present) (λ j. true) (λ j c. is j ∙ lt-ltb j n c) ∙ every-below n
 
-  module _ (who other : List ℕ) (few : Bool) (m present : ℕ) (g : Goes) (h : Going who other few m present g) where
+  module _ (who other : List ℕ) (used : Bool) (m present : ℕ) (g : Goes) (h : Going who other used m present g) where
     module _ (e : g .found ≡ true) where
       abbrev r : Removal
       r = removal (g .who) (g .other)
@@ -99,10 +104,11 @@ module _ (cap L : ℕ) (rows : List ℕ) (most : length rows ≤ cap) where
       next-some : next n (matrix rows) (has present) L ≡ some r
       next-some = sym (h .turn) ∙ ap (λ (b : Bool). cond b (some r) none) e
 
+      allowed : Allowed L n (matrix rows) (has present) r
+      allowed = next-allowed L n (matrix rows) (has present) r (subst (Next L n (matrix rows) (has present)) next-some (next-is L n (matrix rows) (has present)))
+
       who-is : (entry r < n) × T (has present (entry r))
-      who-is =
-          allowed-entry L n (matrix rows) (has present) r
-          (next-allowed L n (matrix rows) (has present) r (subst (Next L n (matrix rows) (has present)) next-some (next-is L n (matrix rows) (has present))))
+      who-is = allowed-entry L n (matrix rows) (has present) r allowed
 
       pub who-below : g .who < n
       who-below = subst (λ (x : ℕ). x < n) (removal-entry (g .who) (g .other)) (who-is .0)
@@ -110,16 +116,26 @@ module _ (cap L : ℕ) (rows : List ℕ) (most : length rows ≤ cap) where
       pub who-here : T (has present (g .who))
       who-here = subst (λ (x : ℕ). T (has present x)) (removal-entry (g .who) (g .other)) (who-is .1)
 
+      -- the other that is noted is an entry too
+      pub other-below : g .other < n
+      other-below = go (ℕ-discrete (g .who) (g .other))
+        where
+          go : Dec (g .who ≡ g .other) → g .other < n
+          go (yes q) = subst (λ (x : ℕ). x < n) q who-below
+          go (no q) =
+              subst (λ (x : Removal). Allowed L n (matrix rows) (has present) x)
+              (ap (λ (b : Bool). cond b (few (g .who)) (covered (g .who) (g .other))) (ne-eqb (g .who) (g .other) q)) allowed .other-below
+
       -- there is a place for it
       pub room : m < n
       room = omega (arith, h .all, size-without n present (g .who) _ who-below who-here (without-is present (g .who)))
 
       pub going-next : (present′ : ℕ) (g′ : Goes) → IsWithout present (g .who) present′ → goesOf g′ ≡ next n (matrix rows) (has present′) L
-          → Going (set who m (g .who)) (set other m (g .other)) (few || eqb (g .who) (g .other)) (m + 1) present′ g′
+          → Going (set who m (g .who)) (set other m (g .other)) (used || eqb (g .who) (g .other)) (m + 1) present′ g′
       going-next present′ g′ w t = record {
         long-who = length-set who m (g .who) ∙ h .long-who;
         long-other = length-set other m (g .other) ∙ h .long-other;
-        entries = λ x b. h .entries x (and-l (has present x) (not (eqb (g .who) x)) (subst T (w x) b));
+        entries = without-entries n present (g .who) present′ (h .entries) w;
         still =
             ap (λ (l : List Removal). l ++ removals L n (matrix rows) (size n present′) (has present′)) more
             ∙ append-assoc (removed who other m) (r ∷ []) (removals L n (matrix rows) (size n present′) (has present′))
@@ -146,8 +162,11 @@ module _ (cap L : ℕ) (rows : List ℕ) (most : length rows ≤ cap) where
               ∙ removals-next L n (matrix rows) (size n present′) (has present) r next-some
               ∙ ap (λ (p : ℕ → Bool). r ∷ removals L n (matrix rows) (size n present′) p) (ap (λ (v : ℕ). without v (has present)) (removal-entry (g .who) (g .other)) ∙ sym gone-one)
 
+      pub going-less : (present′ : ℕ) → IsWithout present (g .who) present′ → size n present′ < size n present
+      going-less present′ w = omega (arith, size-without n present (g .who) present′ who-below who-here w)
+
     -- neither rule applies
-    pub going-end : g .found ≡ false → Shrank L rows (record { present = present; gone = m; who = who; other = other; few = few })
+    pub going-end : g .found ≡ false → Shrank L rows (record { present = present; gone = m; who = who; other = other; few = used })
     going-end e = record {
       went = went;
       stays = λ x. sym (λ i. h .stays i x) ∙ ap (λ (rs : List Removal). left (everyone n) rs x) went;

@@ -48,7 +48,8 @@ Taken cap s c = (i : ℕ) → i < size cap s → at c i < cap
 
 pub record Spread (cap s : ℕ) (c : List ℕ) (many : ℕ) (h : Seats) : Type 0 where
   pub many-is : h .many ≡ many
-  pub long : length (h .group) ≡ cap
+  pub long-group : length (h .group) ≡ cap
+  pub long-sets : length (h .sets) ≡ cap
   pub group : (x : ℕ) → x < cap → T (has s x) → at (h .group) x ≡ at c (place ℕ-discrete x (names cap s))
   pub sets : Sets cap (has s) (h .group) (h .sets)
 
@@ -61,6 +62,8 @@ module _ (cap : ℕ) (rows who other : List ℕ) (gone : ℕ) (h : Seats) where
     pub fits : Fits (length rows) (matrix rows) (left (everyone (length rows)) (removed who other gone)) (seatingOf h)
     pub sets : Sets cap (left (everyone (length rows)) (removed who other gone)) (h .group) (h .sets)
     pub room : h .many + gone ≤ length rows
+    pub long-group : length (h .group) ≡ cap
+    pub long-sets : length (h .sets) ≡ cap
 
   pub record Returned (r : Seats) : Type 0 where
     pub is : seatingOf r ≡ back (length rows) (matrix rows) (everyone (length rows)) (removed who other gone) (seatingOf h)

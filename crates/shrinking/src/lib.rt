@@ -281,6 +281,12 @@ fn home(row: u64, sets: &[u64; 64], many: usize) -> usize
     j
 }
 
+fn wide(x: u8) -> usize
+    ensures { λ r. ⌜ r ≡ x ⌝ }
+{
+    x as usize
+}
+
 // The group that v is put into, where u was noted with it.
 fn seat(rows: &[u64], v: usize, u: usize, group: &[u8; 64], sets: &[u64; 64], many: usize) -> usize
     requires { ⌜ (v < length (now rows)) × (u < 64) × (many ≤ 64) ⌝ }
@@ -289,7 +295,7 @@ fn seat(rows: &[u64], v: usize, u: usize, group: &[u8; 64], sets: &[u64; 64], ma
     if v == u {
         return home(rows[v], sets, many);
     }
-    group[u] as usize
+    wide(group[u])
 }
 
 // How many groups there are of `many` once somebody is in group j.

@@ -1,69 +1,82 @@
+-- `shrinking::small_rows` meets its contract: the rows below i are those of the shrunk list, and i are gone through. Assumes nothing.
+use mathlib.Core.Path.{_≡_, refl}
+use Prim.Native.Nat.{_<_}
+use native.Mathlib.Omega.{arith}
+use borrow.Author.Needs.{needs}
+use Rattle.sets.specs.Set.{size}
+use Rattle.graphs.proofs.LoopLaws.{size-le, left-falls}
+use Rattle.shrinking.proofs.TurnLaws.{Filling, filling-start, filling-next, filling-end, turn-few}
 use Rattle.shrinking.proofs.small_rows.Statement.{statement}
 use Rattle.shrinking.proofs.small_rows.Tie as tie
-use Rattle.shrinking.proofs.small_rows.Reads as reads
-use Rattle.shrinking.proofs.small_rows.Lts as lts
-use Rattle.sets.proofs.lowest.Reads as lowest-reads
-use Rattle.sets.proofs.rest.Reads as rest-reads
-use Rattle.shrinking.proofs.packed.Reads as packed-reads
-use Rattle.shrinking.proofs.places.Reads as places-reads
 
 abbrev Inv-loop : tie.InvT-loop
-Inv-loop rows present at out₀ left₀ i₀ out left i = ?
+Inv-loop rows present at out₀ left₀ i₀ out left i = Filling 64 present rows out left i
 
 abbrev μ-loop : tie.MeasureT-loop
-μ-loop rows present at out₀ left₀ i₀ out left i = ?
+μ-loop rows present at out₀ left₀ i₀ out left i = size 64 left
 
--- src/lib.rt:229:14
 places-requires : tie.Need-places-requires Inv-loop μ-loop
-places-requires c κs = ?
+places-requires c κs = search needs
 
--- src/lib.rt:233:5
 loop-holds : tie.Need-loop-holds Inv-loop μ-loop
-loop-holds c = ?
+loop-holds c = let a = c .before .before .args in filling-start 64 (a .present) (a .rows .now) _ refl
 
--- src/lib.rt:234:13
 lowest-requires : tie.Need-lowest-requires Inv-loop μ-loop
-lowest-requires c κs = ?
+lowest-requires c κs = search needs
 
--- src/lib.rt:235:9
 rest-requires : tie.Need-rest-requires Inv-loop μ-loop
-rest-requires c κs = ?
+rest-requires c κs = search needs
 
--- src/lib.rt:236:26
 mul-packed : tie.Need-mul-packed Inv-loop μ-loop
-mul-packed c = ?
+mul-packed c = search needs
 
--- src/lib.rt:236:26
+-- the lowest who is left is an entry
 shared-slice-read-packed : tie.Need-shared-slice-read-packed Inv-loop μ-loop
-shared-slice-read-packed c = ?
+shared-slice-read-packed c =
+    let low = c .before .before .lowest in
+    let l = c .before .before .before .before .loop in
+    c .before .before .before .before .before .before .before .pre (low .result) (l .inv .turned .within (low .result) (low .ensures .member))
 
--- src/lib.rt:236:13
 packed-requires : tie.Need-packed-requires Inv-loop μ-loop
-packed-requires c κs = ?
+packed-requires c κs = c .before .before .before .before .before .before .places .ensures
 
--- src/lib.rt:237:9
+few : (c : tie.After-rest Inv-loop μ-loop) → c .before .before .before .loop .i < 64
+few c =
+    let l = c .before .before .before .loop in
+    let low = c .before .lowest in
+    let p = c .before .before .before .before .before .before .args .present in
+    omega (arith, turn-few 64 p (l .left) (l .i) (low .result) (l .inv .turned) (low .ensures), size-le 64 p)
+
 mul-out : tie.Need-mul-out Inv-loop μ-loop
-mul-out c = ?
+mul-out c = omega (arith, few (c .before .before .before))
 
--- src/lib.rt:237:9
 array-write-out : tie.Need-array-write-out Inv-loop μ-loop
-array-write-out c = ?
+array-write-out c = few (c .before .before .before)
 
--- src/lib.rt:238:9
 add-i : tie.Need-add-i Inv-loop μ-loop
-add-i c = ?
+add-i c = omega (arith, few (c .before .before .before))
 
--- src/lib.rt:233:5
 loop-less : tie.Need-loop-less Inv-loop μ-loop
-loop-less c = ?
+loop-less c =
+    let l = c .before .before .before .before .before .before .loop in
+    let low = c .before .before .before .before .lowest in
+    let r = c .before .before .before .rest in
+    left-falls (l .left) (low .result) (r .result) (low .ensures) (r .ensures (low .result) (low .ensures))
 
--- src/lib.rt:233:5
 loop-again : tie.Need-loop-again Inv-loop μ-loop
-loop-again c = ?
+loop-again c =
+    let a = c .before .before .before .before .before .before .before .before .before .args in
+    let l = c .before .before .before .before .before .before .loop in
+    let low = c .before .before .before .before .lowest in
+    let r = c .before .before .before .rest in
+    filling-next 64 (a .present) (a .rows .now) (l .out) (l .left) (l .i) (low .result) (r .result) (c .packed .result) (l .inv) (low .ensures)
+    (r .ensures (low .result) (low .ensures)) (c .packed .ensures) (omega (arith, few (c .before .before .before), l .inv .long))
 
--- src/lib.rt:225:1
 returns : tie.Need-returns Inv-loop μ-loop
-returns c = ?
+returns c =
+    let a = c .before .before .before .before .args in
+    let l = c .before .loop in
+    filling-end 64 (a .present) (a .rows .now) (l .out) (l .left) (l .i) (l .inv) (c .loop-test .left)
 
 pub small-rows-spec : {M : Type 1} → statement M
 small-rows-spec =
