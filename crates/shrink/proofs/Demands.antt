@@ -72,7 +72,7 @@ module _ (bound : ℕ → Graph → ℕ) (B : IsBound bound) (n : ℕ) (clash : 
   of-division : Division (shrunkSize L n clash) (shrunkOf bound n clash .best)
   of-division = bounded-division (shrunkSize L n clash) (shrunkClash L n clash) shrunk-ok bound B
 
-  of-free : T (clashFree (shrunkSize L n clash) (shrunkClash L n clash) (shrunkOf bound n clash .best))
+  pub of-free : T (clashFree (shrunkSize L n clash) (shrunkClash L n clash) (shrunkOf bound n clash .best))
   of-free = bounded-free (shrunkSize L n clash) (shrunkClash L n clash) shrunk-ok bound B
 
   of-chromatic : Chromatic (shrunkSize L n clash) (shrunkClash L n clash) (size (shrunkOf bound n clash))

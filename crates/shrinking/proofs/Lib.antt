@@ -5,3 +5,5 @@ pub mod ShrinkLaws
 pub mod TurnLaws
 pub mod SeatLaws
 pub mod ReturnLaws
+pub mod RowLaws
+pub mod CallLaws

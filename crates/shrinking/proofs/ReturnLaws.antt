@@ -90,6 +90,7 @@ module _ (cap : ℕ) (rows who other : List ℕ) (all : ℕ) (h : Seats) (g : Re
   returns-end group sets many k = record {
     is = k .is ∙ ap (λ (rs : List Removal). back n clash (everyone n) rs (seatingOf h)) (k .split);
     sets = k .held;
+    room = omega (arith, k .room);
   }
 
   module _ (i : ℕ) (group sets : List ℕ) (many : ℕ) (k : Returns cap rows who other all h (suc i) group sets many) where

@@ -65,23 +65,24 @@ without-entries n present v present′ e w x t = e x (and-l (has present x) (not
 
 -- ---- the loop
 
+-- m have gone, as the two arrays note; used says whether one went by the second rule
+pub record Going (cap L : ℕ) (rows who other : List ℕ) (used : Bool) (m present : ℕ) (g : Goes) : Type 0 where
+  pub long-who : length who ≡ cap
+  pub long-other : length other ≡ cap
+  pub entries : Entries (length rows) present
+  pub still : removed who other m ++ removals L (length rows) (matrix rows) (size (length rows) present) (has present) ≡ gone L (length rows) (matrix rows)
+  pub stays : _≡_ {A = ℕ → Bool} (left (everyone (length rows)) (removed who other m)) (has present)
+  pub second : used ≡ some? isFew (removed who other m)
+  pub all : m + size (length rows) present ≡ length rows
+  pub turn : goesOf g ≡ next (length rows) (matrix rows) (has present) L
+
 module _ (cap L : ℕ) (rows : List ℕ) (most : length rows ≤ cap) where
   abbrev n : ℕ
   n = length rows
 
-  pub record Going (who other : List ℕ) (used : Bool) (m present : ℕ) (g : Goes) : Type 0 where
-    pub long-who : length who ≡ cap
-    pub long-other : length other ≡ cap
-    pub entries : Entries n present
-    pub still : removed who other m ++ removals L n (matrix rows) (size n present) (has present) ≡ gone L n (matrix rows)
-    pub stays : _≡_ {A = ℕ → Bool} (left (everyone n) (removed who other m)) (has present)
-    pub second : used ≡ some? isFew (removed who other m)
-    pub all : m + size n present ≡ n
-    pub turn : goesOf g ≡ next n (matrix rows) (has present) L
-
   -- everyone is present
   pub going-start : (who other : List ℕ) (present : ℕ) (g : Goes) → length who ≡ cap → length other ≡ cap → IsBelow n present
-      → goesOf g ≡ next n (matrix rows) (has present) L → Going who other false 0 present g
+      → goesOf g ≡ next n (matrix rows) (has present) L → Going cap L rows who other false 0 present g
   going-start who other present g a b is t = record {
     long-who = a;
     long-other = b;
@@ -96,7 +97,7 @@ module _ (cap L : ℕ) (rows : List ℕ) (most : length rows ≤ cap) where
       full : size n present ≡ n
       full = count-agree n (has present) (λ j. true) (λ j c. is j ∙ lt-ltb j n c) ∙ every-below n
 
-  module _ (who other : List ℕ) (used : Bool) (m present : ℕ) (g : Goes) (h : Going who other used m present g) where
+  module _ (who other : List ℕ) (used : Bool) (m present : ℕ) (g : Goes) (h : Going cap L rows who other used m present g) where
     module _ (e : g .found ≡ true) where
       abbrev r : Removal
       r = removal (g .who) (g .other)
@@ -131,7 +132,7 @@ module _ (cap L : ℕ) (rows : List ℕ) (most : length rows ≤ cap) where
       room = omega (arith, h .all, size-without n present (g .who) _ who-below who-here (without-is present (g .who)))
 
       pub going-next : (present′ : ℕ) (g′ : Goes) → IsWithout present (g .who) present′ → goesOf g′ ≡ next n (matrix rows) (has present′) L
-          → Going (set who m (g .who)) (set other m (g .other)) (used || eqb (g .who) (g .other)) (m + 1) present′ g′
+          → Going cap L rows (set who m (g .who)) (set other m (g .other)) (used || eqb (g .who) (g .other)) (m + 1) present′ g′
       going-next present′ g′ w t = record {
         long-who = length-set who m (g .who) ∙ h .long-who;
         long-other = length-set other m (g .other) ∙ h .long-other;

@@ -223,4 +223,4 @@ module _ (cap s : ℕ) where
         go x j b (no q) = ap (λ (y : ℕ). has y j) (getD-set-other out i x r 0 q) ∙ k .is x j (omega arith)
 
     pub filling-end : (out : List ℕ) (left i : ℕ) → Filling out left i → left ≡ 0 → Small cap rows s out
-    filling-end out left i k e x j b = k .is x j (omega (arith, turned-end left i (k .turned) e))
+    filling-end out left i k e = record { long = k .long; is = λ x j b. k .is x j (omega (arith, turned-end left i (k .turned) e)) }

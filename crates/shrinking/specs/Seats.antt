@@ -68,6 +68,7 @@ module _ (cap : ℕ) (rows who other : List ℕ) (gone : ℕ) (h : Seats) where
   pub record Returned (r : Seats) : Type 0 where
     pub is : seatingOf r ≡ back (length rows) (matrix rows) (everyone (length rows)) (removed who other gone) (seatingOf h)
     pub sets : Sets cap (everyone (length rows)) (r .group) (r .sets)
+    pub room : r .many ≤ length rows
 
 pub record Standing (cap n : ℕ) (h : Seats) (room : ℕ) : Type 0 where
   pub few : n ≤ cap

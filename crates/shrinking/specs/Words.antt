@@ -70,5 +70,6 @@ Placed cap s r = (w : ℕ) → w < cap → T (has s w) → at r w ≡ place ℕ-
 abbrev pub Packed : ℕ → ℕ → ℕ → ℕ → Type 0
 Packed cap row s r = (j : ℕ) → has r j ≡ (ltb j (size cap s) && has row (at (names cap s) j))
 
-abbrev pub Small : ℕ → List ℕ → ℕ → List ℕ → Type 0
-Small cap rows s r = (i j : ℕ) → i < size cap s → matrix r i j ≡ (ltb j (size cap s) && among (names cap s) (matrix rows) i j)
+pub record Small (cap : ℕ) (rows : List ℕ) (s : ℕ) (r : List ℕ) : Type 0 where
+  pub long : length r ≡ cap
+  pub is : (i j : ℕ) → i < size cap s → matrix r i j ≡ (ltb j (size cap s) && among (names cap s) (matrix rows) i j)
