@@ -6,7 +6,7 @@ use lib.ListN.{length}
 use Rattle.clashes.specs.Matrix.{Sound}
 use Rattle.bounds.specs.Names.{mycielskian}
 use Rattle.bounds.specs.Lent.{Answers, noMembers}
-use Rattle.bounds.specs.declared.Bound.{Bound}
+use Rattle.bounds.specs.declared.Bound.the-variants.{At}
 use Rattle.walk.specs.declared.Answer.the-variants.{Many, Stray, Itself, OneSided, Short}
 use Rattle.walk.proofs.Meets.{promised-refused}
 use Rattle.shrink.specs.Shrunk.{shrunkWalk}
@@ -34,7 +34,8 @@ enum-known-b-4 c = search needs
 -- the rows are a list's, and the bound is its own
 bounded : (c : tie.After-known-told4)
     → let m = c .before .before .before in
-    Answers mycielskian noMembers (m .before .before .before .args .rows .now) _
+    let g = c .before .b4 .given .0 in
+    Answers mycielskian noMembers (m .before .before .before .args .rows .now) (At (g .0) (g .1 .0))
 bounded c =
     let m = c .before .before .before in
     subst (Answers mycielskian noMembers (m .before .before .before .args .rows .now)) (c .before .b4 .given .1) (m .mycielskian-bound .ensures)

@@ -1,7 +1,7 @@
 -- `shrinking::walk_shrunk` meets its contract: what the walk promises of the shrunk rows is made what is promised of the full ones. Assumes nothing.
 use mathlib.Core.Path.{_≡_, refl, sym, ap, _∙_, subst}
-use mathlib.Core.List.{List}
-use Prim.Native.Nat.{ℕ, _≤_, _<_}
+use mathlib.Core.Bool.{cond}
+use Prim.Native.Nat.{ℕ, _≤_, max}
 use native.Mathlib.Omega.{arith}
 use borrow.Author.Needs.{needs}
 use lib.ListN.{length, take, replicate}
@@ -45,7 +45,7 @@ few : (c : tie.After-size) → c .size .result ≤ 64
 few c = omega (arith, c .size .ensures, size-le 64 (c .before .shrink .result .present))
 
 array-share-prefix-small : tie.Need-array-share-prefix-small
-array-share-prefix-small c = few (c .before)
+array-share-prefix-small c = omega (arith, few (c .before), c .small-rows .ensures .long)
 
 slice-aggregate-fewest : tie.Need-slice-aggregate-fewest
 slice-aggregate-fewest c =
@@ -146,10 +146,12 @@ returns-2 c =
     let d = f .before .before .before .before .before in
     let s = d .before .before .before in
     let small = f .before .before .before .small-rows in
-    subst (Promised (shrunkWalk mycielskian) (s .args .rows .now) (s .args .colours .now) (s .args .budget) _) (sym (n .number .ensures))
+    let g = e .before .a .given .0 in
+    subst (Promised (shrunkWalk mycielskian) (s .args .rows .now) (s .args .colours .now) (s .args .budget) (Accepted (c .before .larger .result) (g .1 .0) (g .1 .1 .0) (c .clique-of .result)))
+    (sym (n .number .ensures))
     (shrunk-accepts 64 (s .args .rows .now) (s .pre .0 .sound) (d .shrink .result) (shrank d) (small .result) (small .ensures) (s .args .colours .now) (replicate 64 0) (f .fewest .last .1 .0)
     (s .args .budget) (s .pre .0 .bytes) _ _ _ _ (accepted e) (t .seated .result) (t .seated .ensures) (b .put-back .result) (b .put-back .ensures) (c .before .larger .result) (c .clique-of .result)
-    ? (c .clique-of .ensures))
+    (c .before .larger .ensures ∙ ap (λ (L : ℕ). cond (d .shrink .result .few) (max L (g .0)) (g .0)) (s .pre .1)) (c .clique-of .ensures))
 
 pub walk-shrunk-spec : {M : Type 1} → statement M
 walk-shrunk-spec =
