@@ -25,7 +25,7 @@ use Rattle.bounds.specs.Names.{cliqueSet, mycielskian}
 use Rattle.bounds.specs.Lent.{ofList}
 use Rattle.bounds.proofs.BoundLaws.{mycielskian-chromatic}
 use Rattle.graphs.proofs.LoopLaws.{size-le}
-use Rattle.zykov.specs.Walk.{State, boundedWalk} 
+use Rattle.zykov.specs.Walk.{State, boundedWalk}
 use Rattle.zykov.specs.Walk as walk
 use Rattle.walk.specs.Promise.{PromisedUpTo}
 use Rattle.walk.specs.declared.Answer.{Answer}

@@ -7,3 +7,4 @@ pub mod SeatLaws
 pub mod ReturnLaws
 pub mod RowLaws
 pub mod CallLaws
+pub mod Demands

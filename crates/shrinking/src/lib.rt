@@ -76,10 +76,8 @@ fn sharing(rows: &[u64], near: u64, among: u64) -> u64
 // The lowest present entry whose clashes are all clashes of another, and the lowest such other.
 fn first_covered(rows: &[u64], present: u64) -> Goes
     requires { ⌜ Listed (now rows) present ⌝ }
-    ensures {
-        λ r. ⌜ goesOf r ≡ choose (length (now (rows .entry))) (matrix (now (rows .entry))) (member present)
-            (lowestOf (isCovered (length (now (rows .entry))) (matrix (now (rows .entry))) (member present)) (length (now (rows .entry)))) none ⌝
-    }
+    ensures { λ r. ⌜ goesOf r ≡ choose (length (now (rows .entry))) (matrix (now (rows .entry))) (member present)
+        (lowestOf (isCovered (length (now (rows .entry))) (matrix (now (rows .entry))) (member present)) (length (now (rows .entry)))) none ⌝ }
 {
     let mut found = Goes {
         found: false,
@@ -109,10 +107,8 @@ fn first_covered(rows: &[u64], present: u64) -> Goes
 fn first_few(rows: &[u64], present: u64, bound: usize) -> Goes
     requires { ⌜ length (now rows) ≤ 64 ⌝ }
     requires { ⌜ Listed (now rows) present ⌝ }
-    ensures {
-        λ r. ⌜ goesOf r ≡ choose (length (now (rows .entry))) (matrix (now (rows .entry))) (member present) none
-            (lowestOf (hasFew (length (now (rows .entry))) (matrix (now (rows .entry))) (member present) bound) (length (now (rows .entry)))) ⌝
-    }
+    ensures { λ r. ⌜ goesOf r ≡ choose (length (now (rows .entry))) (matrix (now (rows .entry))) (member present) none
+        (lowestOf (hasFew (length (now (rows .entry))) (matrix (now (rows .entry))) (member present) bound) (length (now (rows .entry)))) ⌝ }
 {
     let mut found = Goes {
         found: false,
