@@ -41,11 +41,12 @@ use Rattle.shrink.proofs.RuleLaws.{left-in, removals-steps}
 use Rattle.shrink.proofs.BackLaws.{back-fits, spread-at, spread-fits}
 use Rattle.shrink.proofs.Alike.{Alike, alike-fits, back-alike, division-agree}
 use Rattle.shrink.proofs.Demands as demands
-use Rattle.shrinking.specs.Words.{Entries, removed, names, Shrank, Small}
-use Rattle.shrinking.specs.Seats.{seatingOf, Taken, Spread, Returning, Returned, Standing}
-use Rattle.shrinking.specs.declared.Shrunk.{Shrunk}
-use Rattle.shrinking.specs.declared.Seats.{Seats}
-use Rattle.shrinking.proofs.TurnLaws.{names-long, place-below}
+use Rattle.removing.specs.Words.{Entries, removed, Shrank}
+use Rattle.restoring.specs.Rows.{names, Small}
+use Rattle.restoring.specs.Seats.{seatingOf, Taken, Spread, Returning, Returned, Standing}
+use Rattle.removing.specs.declared.Shrunk.{Shrunk}
+use Rattle.restoring.specs.declared.Seats.{Seats}
+use Rattle.restoring.proofs.TurnLaws.{names-long, place-below}
 use Rattle.shrinking.proofs.RowLaws.{rows-sound, rows-walk}
 
 module _ (most : ℕ) (rows : List ℕ) (sound : SoundUpTo most rows) (s : Shrunk) (w : Shrank (ofList mycielskian rows) rows s) where

@@ -1,10 +1,4 @@
--- Laws of the loops: who shares clashes, who goes next, how a list is shrunk; places and small rows; seats, and putting back; what is promised. And the demands.
-pub mod ShareLaws
-pub mod LookLaws
-pub mod ShrinkLaws
-pub mod TurnLaws
-pub mod SeatLaws
-pub mod ReturnLaws
+-- What the walk's promise of the shrunk rows comes to for the full ones; and the demands.
 pub mod RowLaws
 pub mod CallLaws
 pub mod Demands

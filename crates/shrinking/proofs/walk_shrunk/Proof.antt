@@ -16,7 +16,7 @@ use Rattle.walk.specs.Promise.{Promised}
 use Rattle.walk.specs.declared.Answer.{Answer}
 use Rattle.walk.specs.declared.Answer.the-variants.{Accepted}
 use Rattle.shrink.specs.Shrunk.{shrunkWalk}
-use Rattle.shrinking.specs.Words.{Shrank}
+use Rattle.removing.specs.Words.{Shrank}
 use Rattle.shrinking.proofs.CallLaws.{present-entries, small-few, shrunk-refused, colours-few, returning, standing, shrunk-accepts}
 use Rattle.shrinking.proofs.walk_shrunk.Statement.{statement}
 use Rattle.shrinking.proofs.walk_shrunk.Tie as tie

@@ -1,3 +1,0 @@
--- What the functions promise: who goes, the small rows, putting back.
-pub mod Words
-pub mod Seats
