@@ -18,7 +18,7 @@ use std::path::{Path, PathBuf};
 use std::process::ExitCode;
 
 use bench::lists::load;
-use bench::{described, placed, reading, tuned, Walk};
+use bench::{described, placed, reading, shrunk, tuned, Walk};
 use clock::seconds;
 use second::{colouring, list, sheet, Refused};
 
@@ -35,6 +35,13 @@ const PLACINGS: &[(&str, Walk)] = &[
     ("second", placed),
     #[cfg(feature = "proved")]
     ("placing", proved::fewest_by_placing),
+];
+
+/// The walks over a shrunk list, which have counts of their own: the second program's shrinking around the plain walk, and the proved one.
+const SHRUNK: &[(&str, Walk)] = &[
+    ("second", shrunk),
+    #[cfg(feature = "proved")]
+    ("shrunk", proved::fewest_shrunk),
 ];
 
 type Bounds = fn(&[u64]) -> Result<(u64, u32), Refused>;
@@ -184,25 +191,26 @@ fn walks(tests: &Path, word: &str) -> bool {
     true
 }
 
-/// Nodes per second of the searches by placing, and of the last of the walks beside them. False where answers differ.
-fn placings(tests: &Path, word: &str) -> bool {
-    println!("\nSearches by placing: thousand nodes per second of processor time, budget {BUDGET}; a walk's own nodes beside them");
+/// Nodes per second of searches that have counts of their own, and of the last of the walks beside them. False where answers differ.
+fn beside(tests: &Path, word: &str, title: &str, searches: &[(&str, Walk)]) -> bool {
+    println!("\n{title}: thousand nodes per second of processor time, budget {BUDGET}; the walk's own nodes beside them, and microseconds of each");
     let walk = &WALKS[WALKS.len() - 1..];
     let mut head: Vec<String> = ["list", "k", "nodes"].map(String::from).to_vec();
-    head.extend(PLACINGS.iter().map(|(name, _)| name.to_string()));
-    head.extend(["walk's k".into(), "its nodes".into(), walk[0].0.to_string()]);
+    head.extend(searches.iter().map(|(name, _)| name.to_string()));
+    head.extend(["walk's k".into(), "its nodes".into(), walk[0].0.to_string(), "us".into(), "walk's us".into()]);
     row(&head);
     for name in LISTS.iter().filter(|name| name.contains(word)) {
         let rows = named(tests, name);
-        let (Some((k, nodes)), Some((walk_k, walk_nodes))) = (answered(PLACINGS, &rows), answered(walk, &rows)) else {
-            println!("{name}: the searches by placing differ");
+        let (Some((k, nodes)), Some((walk_k, walk_nodes))) = (answered(searches, &rows), answered(walk, &rows)) else {
+            println!("{name}: the answers differ");
             return false;
         };
-        let rate = |nodes: u64| move |taken: f64| format!("{:.0}", nodes as f64 / taken / 1e3);
+        let rate = |nodes: u64, taken: f64| format!("{:.0}", nodes as f64 / taken / 1e3);
+        let (taken, of_walk) = (walked(searches, &rows), walked(walk, &rows)[0]);
         let mut cells = vec![name.to_string(), k, nodes.to_string()];
-        cells.extend(walked(PLACINGS, &rows).into_iter().map(rate(nodes)));
-        cells.extend([walk_k, walk_nodes.to_string()]);
-        cells.extend(walked(walk, &rows).into_iter().map(rate(walk_nodes)));
+        cells.extend(taken.iter().map(|&taken| rate(nodes, taken)));
+        cells.extend([walk_k, walk_nodes.to_string(), rate(walk_nodes, of_walk)]);
+        cells.extend([taken[taken.len() - 1], of_walk].map(|taken| format!("{:.1}", taken * 1e6)));
         row(&cells);
     }
     true
@@ -289,7 +297,7 @@ fn texts(tests: &Path) -> bool {
 /// One walk of one list: its nodes, or nothing where there is no such walk.
 fn once(tests: &Path, name: &str, walk: &str, budget: &str) -> ExitCode {
     let rows = named(tests, name);
-    let mut known = WALKS.iter().chain(PLACINGS);
+    let mut known = WALKS.iter().chain(PLACINGS).chain(SHRUNK);
     let (Some((_, walk)), Ok(budget)) = (known.find(|(known, _)| *known == walk), budget.parse()) else {
         eprintln!("no walk '{walk}', or no budget '{budget}'");
         return ExitCode::FAILURE;
@@ -317,7 +325,8 @@ fn main() -> ExitCode {
             return ExitCode::FAILURE;
         }
     };
-    if walks(&tests, word) && placings(&tests, word) && bounds(&tests, word) && texts(&tests) {
+    let searches = || beside(&tests, word, "Searches by placing", PLACINGS) && beside(&tests, word, "Walks over a shrunk list", SHRUNK);
+    if walks(&tests, word) && searches() && bounds(&tests, word) && texts(&tests) {
         ExitCode::SUCCESS
     } else {
         ExitCode::FAILURE

@@ -3,9 +3,9 @@
 
 use bench::lists::{random, Numbers};
 use bench::{described, shrunk};
+use second::colouring;
 use second::matrix::{all_divisions, groups, is_clash_free, rows_of};
 use second::shrink::{shrink, Rule};
-use second::colouring;
 
 use crate::calls;
 use crate::inputs::list_of;
@@ -83,7 +83,10 @@ fn random_lists() {
             compared(&rows, n, drawn.below(said[3]));
         }
     }
-    assert!(both > cases(2_000) && split > cases(500) && above > cases(300) && other > cases(1_000) && spent > cases(50), "{both} {split} {above} {other} {spent}");
+    assert!(
+        both > cases(2_000) && split > cases(500) && above > cases(300) && other > cases(1_000) && spent > cases(50),
+        "{both} {split} {above} {other} {spent}"
+    );
 }
 
 /// Long lists of every density, up to 300 nodes of each.
