@@ -201,7 +201,9 @@ fn walks(tests: &Path, word: &str) -> bool {
 
 /// Nodes per second of searches that have counts of their own, and of the last of the walks beside them, all in turns. False where answers differ.
 fn beside(tests: &Path, word: &str, title: &str, searches: &[(&'static str, Walk)]) -> bool {
-    println!("\n{title}: thousand nodes per second of processor time, budget {BUDGET}; a walk beside them, by its own nodes; and milliseconds");
+    println!(
+        "\n{title}: thousand nodes per second of processor time, budget {BUDGET}; a walk beside them, by its own nodes; and milliseconds"
+    );
     let walk = &WALKS[WALKS.len() - 1..];
     let all = [searches, walk].concat();
     let mut head: Vec<String> = ["list", "k", "nodes", "walk's k", "its nodes"].map(String::from).to_vec();
