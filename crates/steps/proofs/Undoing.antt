@@ -43,6 +43,15 @@ pub laid-finds : (words n : ℕ) (live : Set) (l : Lent) (at : ℕ) → Laid wor
     → (n ≤ length (l .names)) × (n ≤ length (l .best)) × (n ≤ 256)
 laid-finds words n live l at laid held = (omega (arith, held .few, laid .named), laid .bytes, omega (arith, held .few, form-few (laid .form)))
 
+-- all that is lent is as long as it was
+pub stays-long : {words : ℕ} {l : Lent} {at : ℕ} {x : Lent} → Form words (l .rows) → Stays words l at x
+    → (length (x .rows) ≡ length (l .rows)) × (length (x .names) ≡ length (l .names)) × (length (x .best) ≡ length (l .best)) × (length (x .trail) ≡ length (l .trail))
+stays-long f s = (form-same-long f (s .form), ap length (s .names), s .best-long, s .trail-long)
+
+-- what is laid is so at another place of the trail that is as far
+pub laid-at : {words n : ℕ} {live : Set} {l : Lent} {at : ℕ} (i : ℕ) → i ≡ at → Laid words n live l at → Laid words n live l i
+laid-at {words = words} {n = n} {live = live} {l = l} i e laid = subst (Laid words n live l) (sym e) laid
+
 -- ---- nothing is changed but the best; nothing is on the trail yet
 
 module _ (words : ℕ) (l : Lent) (at : ℕ) where

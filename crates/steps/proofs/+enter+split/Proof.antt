@@ -20,7 +20,7 @@ use Rattle.steps.specs.Going.{Lent, lending, nodeIn, stateOf, Ready, Com
 use Rattle.steps.specs.declared.State.{State}
 use Rattle.steps.proofs.Turns.{Counted, counted-on, counted-ready, comes-out, comes-cut, comes-leaf, comes-fork}
 use Rattle.steps.proofs.Splits.{living, open-pairs}
-use Rattle.steps.proofs.Undoing.{form-few, form-same-long, left-none, left-best, left-kept, kept-all, kept-best, kept-restored, laid-finds}
+use Rattle.steps.proofs.Undoing.{form-few, stays-long, laid-finds, laid-at, left-none, left-best, left-kept, kept-all, kept-best, kept-restored}
 use Rattle.steps.proofs.Rounds.{Apart, Back, round-pair, round-merges, round-enters, round-falls, round-unmerges, round-fits, round-back}
 use borrow.Fn.Kinds.{In}
 use borrow.Fn.PlainCycle.{Measures, is, falls, and}
@@ -50,10 +50,14 @@ abbrev Onwards : ℕ → ℕ → Set → Lent → ℕ → ℕ → State → List
 Onwards words n live l u v s best r = Comes n s best r (onward (rule n) (s .budget) n (view (nodeIn words n live l)) u v (stateOf n (l .best) s))
 
 abbrev μ-enter : Measures 4 enter-kinds.ps ℕ
-μ-enter κs a = living (nodeIn (a .0) (a .1 .0) (a .1 .1 .0) (lending (a .1 .1 .1 .0 .now) (a .1 .1 .1 .1 .0 .now) (a .1 .1 .1 .1 .1 .0 .now) (a .1 .1 .1 .1 .1 .1 .0 .now))) * 2 + 1
+μ-enter κs a =
+    let l = a .1 .1 .1 in
+    living (nodeIn (a .0) (a .1 .0) (a .1 .1 .0) (lending (l .0 .now) (l .1 .0 .now) (l .1 .1 .0 .now) (l .1 .1 .1 .0 .now))) * 2 + 1
 
 abbrev μ-split : Measures 4 split-kinds.ps ℕ
-μ-split κs a = living (nodeIn (a .0) (a .1 .0) (a .1 .1 .0) (lending (a .1 .1 .1 .0 .now) (a .1 .1 .1 .1 .0 .now) (a .1 .1 .1 .1 .1 .0 .now) (a .1 .1 .1 .1 .1 .1 .0 .now))) * 2
+μ-split κs a =
+    let l = a .1 .1 .1 in
+    living (nodeIn (a .0) (a .1 .0) (a .1 .1 .0) (lending (l .0 .now) (l .1 .0 .now) (l .1 .1 .0 .now) (l .1 .1 .1 .0 .now))) * 2
 
 abbrev enter-at : ℕ → In 4 enter-kinds.ps
 enter-at t = and 4 enter-kinds.ps (is 4 enter-kinds.ps μ-enter t) enter.Pre
@@ -110,8 +114,40 @@ split-claims t = (
 -- ---- enter
 
 module _ (t : ℕ) where
+  -- the places of enter, each after the one before it: it starts, the node is counted and the walk not out, the bound does not cut it off, a pair is
+  -- chosen, the node is split there
   abbrev Starting : Type 0
   Starting = enter-lts.Start (enter-claims t) (enter-at t) enter.Post
+
+  abbrev Going : Type 0
+  Going = enter-lts.Else1 (enter-claims t) (enter-at t) enter.Post
+
+  abbrev Below : Type 0
+  Below = enter-lts.Else2 (enter-claims t) (enter-at t) enter.Post
+
+  abbrev Choosing : Type 0
+  Choosing = enter-lts.After-choose-among (enter-claims t) (enter-at t) enter.Post
+
+  abbrev Walked : Type 0
+  Walked = enter-lts.After-split (enter-claims t) (enter-at t) enter.Post
+
+  abbrev Restored : Type 0
+  Restored = enter-lts.After-restore (enter-claims t) (enter-at t) enter.Post
+
+  abbrev begin : Going → Starting
+  begin c = c .before .before .before .before .before .before
+
+  abbrev going : Below → Going
+  going c = c .before .before .before
+
+  abbrev below-of : Choosing → Below
+  below-of c = c .before .before
+
+  abbrev choosing-of : Walked → Choosing
+  choosing-of c = c .before .before .before .before .before .before .before .before
+
+  abbrev pair-of : Walked → enter-lts.After-c (enter-claims t) (enter-at t) enter.Post
+  pair-of c = c .before .before .before .before .before .before
 
   -- what is lent, and the node that is entered
   abbrev lent-to : Starting → Lent
@@ -120,23 +156,18 @@ module _ (t : ℕ) where
   abbrev here : Starting → Node
   here c = nodeIn (c .args .words) (c .args .n) (c .args .live) (lent-to c)
 
-  -- it is counted
-  abbrev Going : Type 0
-  Going = enter-lts.Else1 (enter-claims t) (enter-at t) enter.Post
-
-  abbrev begin : Going → Starting
-  begin c = c .before .before .before .before .before .before
-
-  enter-on : (c : Going) → Counted (begin c .args .n) (begin c .args .best .now) (begin c .args .s) (c .before .counted .result)
-  enter-on c =
-      let a = begin c in
-      counted-on (a .args .s) (c .before .counted .result) (a .pre .1 .ready .going) (c .before .counted .ensures) (a .args .n) (a .args .best .now) (a .pre .1 .ready .fair) (c .if1 .left)
+  enter-on : (c : Going) → let a = begin c in Counted (a .args .n) (a .args .best .now) (a .args .s) (c .before .counted .result)
+  enter-on c = counted-on (begin c .pre .1 .ready) (c .before .counted .ensures) (c .if1 .left)
 
   -- the walk may go on below it
-  enter-ready : (c : Going) → Ready (64 * begin c .args .words) (here (begin c)) (begin c .args .best .now) (c .before .counted .result)
-  enter-ready c =
-      let a = begin c in
-      counted-ready (rule (a .args .n)) (64 * a .args .words) (here a) (a .args .best .now) (a .args .s) (a .pre .1 .ready) (c .before .counted .result) (enter-on c)
+  enter-ready : (c : Going) → let a = begin c in Ready (64 * a .args .words) (here a) (a .args .best .now) (c .before .counted .result)
+  enter-ready c = counted-ready (begin c .pre .1 .ready) (enter-on c)
+
+  enter-uncut : (c : Below) → let e = going c in rule (begin e .args .n) .cut (view (here (begin e))) (e .before .counted .result .k) ≡ false
+  enter-uncut c = let a = begin (going c) in sym (c .before .reaches .ensures (here a) (a .pre .1 .ready .held)) ∙ c .if2 .left
+
+  enter-choice : (c : Choosing) → let a = begin (going (below-of c)) in choiceOf (c .choose-among .result) ≡ pair (a .args .n) (view (here a))
+  enter-choice c = let a = begin (going (below-of c)) in c .choose-among .ensures (here a) (a .pre .1 .ready .held)
 
   enter-counted-requires : enter-lts.Need-counted-requires (enter-claims t) (enter-at t) enter.Post
   enter-counted-requires c κs = search needs
@@ -144,9 +175,8 @@ module _ (t : ℕ) where
   enter-returns : enter-lts.Need-returns (enter-claims t) (enter-at t) enter.Post
   enter-returns c =
       let a = c .before .before .before .before .before .before in
-      let k = (c .before) .counted in
       record {
-        comes = comes-out (rule (a .args .n)) (64 * a .args .words) (here a) (a .args .best .now) (a .args .s) (a .pre .1 .ready) (k .result) (k .ensures) (c .if1 .taken);
+        comes = comes-out (rule (a .args .n)) (a .pre .1 .ready) (c .before .counted .ensures) (c .if1 .taken);
         kept = kept-all (a .args .words) (lent-to a) (a .args .at) (a .pre .1 .laid .form);
       }
 
@@ -161,8 +191,7 @@ module _ (t : ℕ) where
       let e = c .before .before .before in
       let a = begin e in
       record {
-        comes = comes-cut (rule (a .args .n)) (64 * a .args .words) (here a) (a .args .best .now) (a .args .s) (a .pre .1 .ready) (e .before .counted .result) (enter-on e)
-            (sym ((c .before) .reaches .ensures (here a) (a .pre .1 .ready .held)) ∙ c .if2 .taken);
+        comes = comes-cut (rule (a .args .n)) (a .pre .1 .ready) (enter-on e) (sym (c .before .reaches .ensures (here a) (a .pre .1 .ready .held)) ∙ c .if2 .taken);
         kept = kept-all (a .args .words) (lent-to a) (a .args .at) (a .pre .1 .laid .form);
       }
 
@@ -173,36 +202,25 @@ module _ (t : ℕ) where
   enter-enum-told c = search needs
 
   enter-improved-requires : enter-lts.Need-improved-requires (enter-claims t) (enter-at t) enter.Post
-  enter-improved-requires c κs = let a = c .before .before .before .before .before .before .before .before .before .before .before .before .before .before .before in (a .pre .1 .laid .forest, laid-finds _ _ _ _ _ (a .pre .1 .laid) (a .pre .1 .ready .held))
+  enter-improved-requires c κs =
+      let a = begin (going (c .before .before .before .before .before .before)) in (a .pre .1 .laid .forest, laid-finds _ _ _ _ _ (a .pre .1 .laid) (a .pre .1 .ready .held))
 
   enter-enum-known-c : enter-lts.Need-enum-known-c (enter-claims t) (enter-at t) enter.Post
   enter-enum-known-c c = search needs
 
-  -- the bound does not cut it off
-  abbrev Below : Type 0
-  Below = enter-lts.Else2 (enter-claims t) (enter-at t) enter.Post
-
-  abbrev going : Below → Going
-  going c = c .before .before .before
-
-  enter-uncut : (c : Below) → let e = going c in rule (begin e .args .n) .cut (view (here (begin e))) (e .before .counted .result .k) ≡ false
-  enter-uncut c = let a = begin (going c) in sym ((c .before) .reaches .ensures (here a) (a .pre .1 .ready .held)) ∙ c .if2 .left
-
   enter-split-requires : enter-lts.Need-split-requires (enter-claims t) (enter-at t) enter.Post
   enter-split-requires c κs =
-      let e = c .before .before .before .before .before .before .before .before .before .before .before .before in
+      let d = c .before .before .before .before .before .before .before in
+      let e = going (below-of d) in
       let a = begin e in
       let p : living (here a) * 2 + 1 ≡ t = a .pre .0 in (
         omega arith,
-        record {
-          enters = record { ready = enter-ready e; laid = a .pre .1 .laid };
-          chosen = sym ((c .before .before .before .before .before .before .before) .choose-among .ensures (here a) (a .pre .1 .ready .held)) ∙ ap choiceOf ((c .before .before .before .before .before) .c .given .1);
-        },
+        record { enters = record { ready = enter-ready e; laid = a .pre .1 .laid }; chosen = sym (enter-choice d) ∙ ap choiceOf (c .before .before .before .before .before .c .given .1) },
       )
 
   -- what split has left is restored
   enter-restore-requires : enter-lts.Need-restore-requires (enter-claims t) (enter-at t) enter.Post
-  enter-restore-requires c κs = let l = (c .before .before .before .before .before .before .before .before .before .before) .split .ensures .left in (l .stays .form, l .few)
+  enter-restore-requires c κs = let l = c .before .before .before .before .before .before .before .before .before .before .split .ensures .left in (l .stays .form, omega (arith, l .few))
 
   enter-same-length-2 : enter-lts.Need-same-length-2 (enter-claims t) (enter-at t) enter.Post
   enter-same-length-2 c = refl
@@ -211,45 +229,57 @@ module _ (t : ℕ) where
   enter-same-length-3 c = refl
 
   enter-same-length-4 : enter-lts.Need-same-length-4 (enter-claims t) (enter-at t) enter.Post
-  enter-same-length-4 c = (c .before .before) .improved .ensures .long
+  enter-same-length-4 c = c .before .before .improved .ensures .long
 
   enter-returns-3 : enter-lts.Need-returns-3 (enter-claims t) (enter-at t) enter.Post
   enter-returns-3 c =
-      let b = c .before .before .before .before .before .before .before .before .before in
+      let d = c .before .before .before .before .before .before .before in
+      let b = below-of d in
       let e = going b in
       let a = begin e in
-      let f = (c .before .before) .improved .ensures in
+      let f = c .before .before .improved .ensures in
       record {
-        comes = comes-leaf (rule (a .args .n)) (64 * a .args .words) (here a) (a .args .best .now) (a .args .s) (a .pre .1 .ready) (e .before .counted .result) (enter-on e)
-            (enter-uncut b) _ _ (sym ((c .before .before .before .before .before .before .before) .choose-among .ensures (here a) (a .pre .1 .ready .held)) ∙ ap choiceOf ((c .before .before .before .before .before) .enum-told .given .1))
+        comes = comes-leaf (rule (a .args .n)) (a .pre .1 .ready) (enter-on e) (enter-uncut b) (sym (enter-choice d) ∙ ap choiceOf (c .before .before .before .before .before .enum-told .given .1))
             (f .is (64 * a .args .words) _ (form-few (a .pre .1 .laid .form)) (enter-ready e));
         kept = kept-best (a .args .words) (lent-to a) (a .args .at) _ (a .pre .1 .laid .form) (f .long);
       }
 
+  enter-kept : (c : Restored)
+      → let s = c .before .before .before .before .before .before .before .before .before .before .before .split .last in
+      let a = begin (going (below-of (choosing-of (c .before .before .before .before .before .before .before .before .before .before .before)))) in
+      Kept (a .args .words) (lent-to a) (a .args .at)
+      (lending (c .restore .last .1 .0) (s .1 .1 .1 .1 .0) (s .1 .1 .1 .1 .1 .0) (s .1 .1 .1 .1 .1 .1 .0))
+  enter-kept c =
+      let s = c .before .before .before .before .before .before .before .before .before .before .before in
+      let a = begin (going (below-of (choosing-of s))) in
+      kept-restored (a .args .words) (lent-to a) (a .args .at) _ _ (s .split .ensures .left) _ (c .restore .ensures .0) (c .restore .ensures .1)
+
   enter-same-length-5 : enter-lts.Need-same-length-5 (enter-claims t) (enter-at t) enter.Post
-  enter-same-length-5 c = form-same-long ((c .before .before .before .before .before .before .before .before .before .before .before .before .before .before .before .before .before .before .before .before .before .before .before .before .before .before .before .before .before .before .before .before .before) .pre .1 .laid .form) ((c .before .before .before) .restore .ensures .0)
+  enter-same-length-5 c =
+      let r = c .before .before .before in stays-long (begin (going (below-of (choosing-of (c .before .before .before .before .before .before .before .before .before .before .before .before .before .before)))) .pre .1 .laid .form) (enter-kept r .stays) .0
 
   enter-same-length-6 : enter-lts.Need-same-length-6 (enter-claims t) (enter-at t) enter.Post
-  enter-same-length-6 c = ap length ((c .before .before .before .before .before .before .before .before .before .before .before .before .before .before) .split .ensures .left .stays .names)
+  enter-same-length-6 c =
+      let r = c .before .before .before in stays-long (begin (going (below-of (choosing-of (c .before .before .before .before .before .before .before .before .before .before .before .before .before .before)))) .pre .1 .laid .form) (enter-kept r .stays) .1
 
   enter-same-length-7 : enter-lts.Need-same-length-7 (enter-claims t) (enter-at t) enter.Post
-  enter-same-length-7 c = (c .before .before .before .before .before .before .before .before .before .before .before .before .before .before) .split .ensures .left .stays .best-long
+  enter-same-length-7 c =
+      let r = c .before .before .before in stays-long (begin (going (below-of (choosing-of (c .before .before .before .before .before .before .before .before .before .before .before .before .before .before)))) .pre .1 .laid .form) (enter-kept r .stays) .2
 
   enter-same-length-8 : enter-lts.Need-same-length-8 (enter-claims t) (enter-at t) enter.Post
-  enter-same-length-8 c = (c .before .before .before .before .before .before .before .before .before .before .before .before .before .before) .split .ensures .left .stays .trail-long
+  enter-same-length-8 c =
+      let r = c .before .before .before in stays-long (begin (going (below-of (choosing-of (c .before .before .before .before .before .before .before .before .before .before .before .before .before .before)))) .pre .1 .laid .form) (enter-kept r .stays) .3
 
   enter-returns-4 : enter-lts.Need-returns-4 (enter-claims t) (enter-at t) enter.Post
   enter-returns-4 c =
-      let b = c .before .before .before .before .before .before .before .before .before .before .before .before .before .before .before .before .before .before .before .before .before .before .before .before in
+      let s = c .before .before .before .before .before .before .before .before .before .before .before .before .before .before in
+      let d = choosing-of s in
+      let b = below-of d in
       let e = going b in
       let a = begin e in
-      let k = (c .before .before .before .before .before .before .before .before .before .before .before .before .before .before .before .before .before .before .before .before) .c .given in
-      let s = (c .before .before .before .before .before .before .before .before .before .before .before .before .before .before) .split in
-      let r = (c .before .before .before) .restore .ensures in
       record {
-        comes = comes-fork (rule (a .args .n)) (64 * a .args .words) (here a) (a .args .best .now) (a .args .s) (a .pre .1 .ready) (e .before .counted .result) (enter-on e)
-            (enter-uncut b) _ _ (k .0 .0) (k .0 .1 .0) (sym ((c .before .before .before .before .before .before .before .before .before .before .before .before .before .before .before .before .before .before .before .before .before .before) .choose-among .ensures (here a) (a .pre .1 .ready .held)) ∙ ap choiceOf (k .1)) (s .ensures .comes);
-        kept = kept-restored (a .args .words) (lent-to a) (a .args .at) _ _ (s .ensures .left) _ (r .0) (r .1);
+        comes = comes-fork (rule (a .args .n)) (a .pre .1 .ready) (enter-on e) (enter-uncut b) (sym (enter-choice d) ∙ ap choiceOf (pair-of s .c .given .1)) (s .split .ensures .comes);
+        kept = enter-kept (c .before .before .before);
       }
 
 -- ---- split
@@ -272,6 +302,9 @@ split-μ-loop words n live rows₀ names₀ best₀ trail₀ at u v a₀ b₀ t�
 
 module _ (t : ℕ) where
   -- the places of a turn, each after the one before it
+  abbrev Started : Type 0
+  Started = split-lts.Start (split-claims t) (split-at t) split.Post split-Inv-loop split-μ-loop
+
   abbrev Looping : Type 0
   Looping = split-lts.At-loop (split-claims t) (split-at t) split.Post split-Inv-loop split-μ-loop
 
@@ -296,7 +329,10 @@ module _ (t : ℕ) where
   abbrev Uncut : Type 0
   Uncut = split-lts.Else3 (split-claims t) (split-at t) split.Post split-Inv-loop split-μ-loop
 
-  abbrev start-of : Looping → split-lts.Start (split-claims t) (split-at t) split.Post split-Inv-loop split-μ-loop
+  abbrev Chosen : Type 0
+  Chosen = split-lts.After-choose-among (split-claims t) (split-at t) split.Post split-Inv-loop split-μ-loop
+
+  abbrev start-of : Looping → Started
   start-of c = c .before .before .before .before .before
 
   abbrev turn-of : Merged → Looping
@@ -319,6 +355,9 @@ module _ (t : ℕ) where
 
   abbrev counted-of : Uncut → Counted-on
   counted-of c = c .before .before .before
+
+  abbrev uncut-of : Chosen → Uncut
+  uncut-of c = c .before .before
 
   abbrev turn-at : Unmerged → Looping
   turn-at c = turn-of (merged-of (fewer-of (entering-of c)))
@@ -361,7 +400,7 @@ module _ (t : ℕ) where
       → let l = turn-at (unmerged-of c) in
       let a = start-of l in
       Apart rule (a .args .words) (a .args .n) (a .args .live) (in-turn l) (a .args .at + l .loop .more) (l .loop .a) (l .loop .b) (l .loop .t) (apart-in c) (entering-of (unmerged-of c) .enter .result)
-  split-apart c = split-back (unmerged-of c) .apart ((c .before .before .before) .if1 .left) _ _ (c .separate-at .ensures)
+  split-apart c = split-back (unmerged-of c) .apart (c .before .before .before .if1 .left) _ _ (c .separate-at .ensures)
 
   split-enters : (c : Separated)
       → let l = turn-at (unmerged-of c) in
@@ -382,19 +421,12 @@ module _ (t : ℕ) where
   split-on : (c : Counted-on)
       → let d = separated-of c in
       Counted (separated-node d .n) (apart-in d .best) (entering-of (unmerged-of d) .enter .result) (c .before .counted .result)
-  split-on c =
-      let d = separated-of c in
-      let r = split-enters d .ready in
-      counted-on (entering-of (unmerged-of d) .enter .result) (c .before .counted .result) (r .going) (c .before .counted .ensures) (separated-node d .n) (apart-in d .best) (r .fair) (c .if2 .left)
+  split-on c = counted-on (split-enters (separated-of c) .ready) (c .before .counted .ensures) (c .if2 .left)
 
   split-ready : (c : Counted-on)
       → let d = separated-of c in
       Ready (64 * start-of (turn-at (unmerged-of d)) .args .words) (separated-node d) (apart-in d .best) (c .before .counted .result)
-  split-ready c =
-      let d = separated-of c in
-      let a = start-of (turn-at (unmerged-of d)) in
-      counted-ready (rule (a .args .n)) (64 * a .args .words) (separated-node d) (apart-in d .best) (entering-of (unmerged-of d) .enter .result) (split-enters d .ready)
-      (c .before .counted .result) (split-on c)
+  split-ready c = counted-ready (split-enters (separated-of c) .ready) (split-on c)
 
   -- the bound does not cut it off
   split-uncut : (c : Uncut)
@@ -403,7 +435,25 @@ module _ (t : ℕ) where
       rule (separated-node d .n) .cut (view (separated-node d)) (e .before .counted .result .k) ≡ false
   split-uncut c =
       let d = separated-of (counted-of c) in
-      sym ((c .before) .reaches .ensures (separated-node d) (split-enters d .ready .held)) ∙ c .if3 .left
+      sym (c .before .reaches .ensures (separated-node d) (split-enters d .ready .held)) ∙ c .if3 .left
+
+  split-choice : (c : Chosen)
+      → let d = separated-of (counted-of (uncut-of c)) in
+      choiceOf (c .choose-among .result) ≡ pair (separated-node d .n) (view (separated-node d))
+  split-choice c = let d = separated-of (counted-of (uncut-of c)) in c .choose-among .ensures (separated-node d) (split-enters d .ready .held)
+
+  -- what is lent is as long as it was at first
+  split-back-long : (c : Unmerged)
+      → let x = at-first (turn-at c) in
+      let y = back-in c in
+      (length (y .rows) ≡ length (x .rows)) × (length (y .names) ≡ length (x .names)) × (length (y .best) ≡ length (x .best)) × (length (y .trail) ≡ length (x .trail))
+  split-back-long c = stays-long (start-of (turn-at c) .pre .1 .enters .laid .form) (split-back-left c .stays)
+
+  split-long : (c : Separated)
+      → let x = at-first (turn-at (unmerged-of c)) in
+      let y = apart-in c in
+      (length (y .rows) ≡ length (x .rows)) × (length (y .names) ≡ length (x .names)) × (length (y .best) ≡ length (x .best)) × (length (y .trail) ≡ length (x .trail))
+  split-long c = stays-long (start-of (turn-at (unmerged-of c)) .pre .1 .enters .laid .form) (split-left c .stays)
 
   -- the trail is short enough for its places to be numbers of the machine
   split-fits : (c : Looping) → start-of c .args .at + c .loop .more < 2 ^ 63
@@ -414,7 +464,7 @@ module _ (t : ℕ) where
       let a = c .before .before .before .before in
       let e = a .pre .1 .enters in
       record {
-        enters = record { ready = e .ready; laid = record { form = e .laid .form; forest = e .laid .forest; named = e .laid .named; bytes = e .laid .bytes; room = omega (arith, e .laid .room) } };
+        enters = record { ready = e .ready; laid = laid-at _ (omega arith) (e .laid) };
         chosen = a .pre .1 .chosen;
         lives = refl;
         rest = λ best r f. f;
@@ -422,13 +472,14 @@ module _ (t : ℕ) where
       }
 
   split-merge-at-requires : split-lts.Need-merge-at-requires (split-claims t) (split-at t) split.Post split-Inv-loop split-μ-loop
-  split-merge-at-requires c κs = let i = (c .before .before) .loop .inv in (i .enters .laid .form, round-merges (i .enters) (i .chosen))
+  split-merge-at-requires c κs = let i = c .before .before .loop .inv in (i .enters .laid .form, round-merges (i .enters) (i .chosen))
 
   split-without-requires : split-lts.Need-without-requires (split-claims t) (split-at t) split.Post split-Inv-loop split-μ-loop
-  split-without-requires c κs = let i = (c .before .before .before .before .before .before .before) .loop .inv in omega (arith, round-pair (i .enters) (i .chosen) .1, form-few (i .enters .laid .form))
+  split-without-requires c κs =
+      let i = c .before .before .before .before .before .before .before .loop .inv in omega (arith, round-pair (i .enters) (i .chosen) .1, form-few (i .enters .laid .form))
 
   split-add-enter : split-lts.Need-add-enter (split-claims t) (split-at t) split.Post split-Inv-loop split-μ-loop
-  split-add-enter c = omega (arith, split-fits (c .before .before .before .before .before .before .before .before .before .before .before .before))
+  split-add-enter c = omega (arith, split-fits (turn-of (merged-of (c .before .before .before .before))))
 
   split-enter-requires : split-lts.Need-enter-requires (split-claims t) (split-at t) split.Post split-Inv-loop split-μ-loop
   split-enter-requires c κs =
@@ -447,28 +498,23 @@ module _ (t : ℕ) where
       let x = c .before .before .before .before .before .before .before .before .before .before in
       let w = fewer-of x in
       let m = merged-of w in
-      let i = turn-of m .loop .inv in (
+      let i = turn-of m .loop .inv in
+      let d = m .merge-at .ensures in (
         x .enter .ensures .kept .stays .form,
-        (
-          round-unmerges (i .enters) (i .chosen) (m .merge-at .ensures) (w .without .result) (w .without .ensures) rule (x .enter .ensures),
-          (
-            m .merge-at .ensures .rows-are .old-fits,
-            m .merge-at .ensures .rows-are .near-fits,
-          ),
-        ),
+        (round-unmerges (i .enters) (i .chosen) d (w .without .result) (w .without .ensures) rule (x .enter .ensures), (d .rows-are .old-fits, d .rows-are .near-fits)),
       )
 
   split-same-length : split-lts.Need-same-length (split-claims t) (split-at t) split.Post split-Inv-loop split-μ-loop
-  split-same-length c = form-same-long ((c .before .before .before .before .before .before .before .before .before .before .before .before .before .before .before .before .before .before .before .before .before .before .before .before .before .before .before .before .before .before .before .before .before .before) .pre .1 .enters .laid .form) ((c .before .before .before .before .before) .unmerge-at .ensures .form)
+  split-same-length c = split-back-long (c .before .before .before .before .before) .0
 
   split-same-length-2 : split-lts.Need-same-length-2 (split-claims t) (split-at t) split.Post split-Inv-loop split-μ-loop
-  split-same-length-2 c = ap length (split-back-left (c .before .before .before .before .before) .stays .names)
+  split-same-length-2 c = split-back-long (c .before .before .before .before .before) .1
 
   split-same-length-3 : split-lts.Need-same-length-3 (split-claims t) (split-at t) split.Post split-Inv-loop split-μ-loop
-  split-same-length-3 c = split-back-left (c .before .before .before .before .before) .stays .best-long
+  split-same-length-3 c = split-back-long (c .before .before .before .before .before) .2
 
   split-same-length-4 : split-lts.Need-same-length-4 (split-claims t) (split-at t) split.Post split-Inv-loop split-μ-loop
-  split-same-length-4 c = split-back-left (c .before .before .before .before .before) .stays .trail-long
+  split-same-length-4 c = split-back-long (c .before .before .before .before .before) .3
 
   split-returns : split-lts.Need-returns (split-claims t) (split-at t) split.Post split-Inv-loop split-μ-loop
   split-returns c =
@@ -476,38 +522,38 @@ module _ (t : ℕ) where
       record { comes = turn-at u .loop .inv .rest _ _ (split-back u .out (c .if1 .taken)); left = split-back-left u }
 
   split-add-separate-at : split-lts.Need-add-separate-at (split-claims t) (split-at t) split.Post split-Inv-loop split-μ-loop
-  split-add-separate-at c = omega (arith, split-fits (c .before .before .before .before .before .before .before .before .before .before .before .before .before .before .before .before .before .before .before .before .before .before .before .before .before .before .before .before .before .before .before))
+  split-add-separate-at c = omega (arith, split-fits (turn-at (c .before .before .before .before .before .before .before)))
 
   split-separate-at-requires : split-lts.Need-separate-at-requires (split-claims t) (split-at t) split.Post split-Inv-loop split-μ-loop
   split-separate-at-requires c κs = let u = c .before .before .before .before .before .before .before in (u .unmerge-at .ensures .form, split-back u .room)
 
   split-add-more : split-lts.Need-add-more (split-claims t) (split-at t) split.Post split-Inv-loop split-μ-loop
-  split-add-more c = let l = split-left (c .before .before .before .before) in let a = c .before .before .before .before .before .before .before .before .before .before .before .before .before .before .before .before .before .before .before .before .before .before .before .before .before .before .before .before .before .before .before .before .before .before .before .before .before .before .before .before .before in omega (arith, l .few, l .stays .trail-long, a .good .1 .1 .1 .1 .1 .1 .0)
+  split-add-more c =
+      let d = c .before .before .before .before in
+      let l = split-left d in
+      omega (arith, l .few, l .stays .trail-long, start-of (turn-at (unmerged-of d)) .good .1 .1 .1 .1 .1 .1 .0)
 
   split-counted-requires : split-lts.Need-counted-requires (split-claims t) (split-at t) split.Post split-Inv-loop split-μ-loop
   split-counted-requires c κs = search needs
 
   split-same-length-5 : split-lts.Need-same-length-5 (split-claims t) (split-at t) split.Post split-Inv-loop split-μ-loop
-  split-same-length-5 c = form-same-long ((c .before .before .before .before .before .before .before .before .before .before .before .before .before .before .before .before .before .before .before .before .before .before .before .before .before .before .before .before .before .before .before .before .before .before .before .before .before .before .before .before .before .before .before) .pre .1 .enters .laid .form) (split-left (c .before .before .before .before .before .before) .stays .form)
+  split-same-length-5 c = split-long (c .before .before .before .before .before .before) .0
 
   split-same-length-6 : split-lts.Need-same-length-6 (split-claims t) (split-at t) split.Post split-Inv-loop split-μ-loop
-  split-same-length-6 c = ap length (split-left (c .before .before .before .before .before .before) .stays .names)
+  split-same-length-6 c = split-long (c .before .before .before .before .before .before) .1
 
   split-same-length-7 : split-lts.Need-same-length-7 (split-claims t) (split-at t) split.Post split-Inv-loop split-μ-loop
-  split-same-length-7 c = split-left (c .before .before .before .before .before .before) .stays .best-long
+  split-same-length-7 c = split-long (c .before .before .before .before .before .before) .2
 
   split-same-length-8 : split-lts.Need-same-length-8 (split-claims t) (split-at t) split.Post split-Inv-loop split-μ-loop
-  split-same-length-8 c = split-left (c .before .before .before .before .before .before) .stays .trail-long
+  split-same-length-8 c = split-long (c .before .before .before .before .before .before) .3
 
   split-returns-2 : split-lts.Need-returns-2 (split-claims t) (split-at t) split.Post split-Inv-loop split-μ-loop
   split-returns-2 c =
       let d = c .before .before .before .before .before .before in
-      let l = turn-at (unmerged-of d) in
-      let a = start-of l in
-      let k = (c .before) .counted in
       record {
-        comes = l .loop .inv .rest _ _ (split-apart d .rest _ _
-            (comes-out (rule (a .args .n)) (64 * a .args .words) (separated-node d) (apart-in d .best) (entering-of (unmerged-of d) .enter .result) (split-enters d .ready) (k .result) (k .ensures) (c .if2 .taken)));
+        comes = turn-at (unmerged-of d) .loop .inv .rest _ _ (split-apart d .rest _ _
+            (comes-out (rule (separated-node d .n)) (split-enters d .ready) (c .before .counted .ensures) (c .if2 .taken)));
         left = split-left d;
       }
 
@@ -515,64 +561,62 @@ module _ (t : ℕ) where
   split-reaches-requires c κs = let d = c .before .before .before .before .before .before .before in (split-enters d .laid .form, (separated-node d, split-enters d .ready .held))
 
   split-same-length-9 : split-lts.Need-same-length-9 (split-claims t) (split-at t) split.Post split-Inv-loop split-μ-loop
-  split-same-length-9 c = form-same-long ((c .before .before .before .before .before .before .before .before .before .before .before .before .before .before .before .before .before .before .before .before .before .before .before .before .before .before .before .before .before .before .before .before .before .before .before .before .before .before .before .before .before .before .before .before .before .before) .pre .1 .enters .laid .form) (split-left (c .before .before .before .before .before .before .before .before .before) .stays .form)
+  split-same-length-9 c = split-long (separated-of (c .before .before .before)) .0
 
   split-same-length-10 : split-lts.Need-same-length-10 (split-claims t) (split-at t) split.Post split-Inv-loop split-μ-loop
-  split-same-length-10 c = ap length (split-left (c .before .before .before .before .before .before .before .before .before) .stays .names)
+  split-same-length-10 c = split-long (separated-of (c .before .before .before)) .1
 
   split-same-length-11 : split-lts.Need-same-length-11 (split-claims t) (split-at t) split.Post split-Inv-loop split-μ-loop
-  split-same-length-11 c = split-left (c .before .before .before .before .before .before .before .before .before) .stays .best-long
+  split-same-length-11 c = split-long (separated-of (c .before .before .before)) .2
 
   split-same-length-12 : split-lts.Need-same-length-12 (split-claims t) (split-at t) split.Post split-Inv-loop split-μ-loop
-  split-same-length-12 c = split-left (c .before .before .before .before .before .before .before .before .before) .stays .trail-long
+  split-same-length-12 c = split-long (separated-of (c .before .before .before)) .3
 
   split-returns-3 : split-lts.Need-returns-3 (split-claims t) (split-at t) split.Post split-Inv-loop split-μ-loop
   split-returns-3 c =
       let e = c .before .before .before in
       let d = separated-of e in
-      let l = turn-at (unmerged-of d) in
-      let a = start-of l in
       record {
-        comes = l .loop .inv .rest _ _ (split-apart d .rest _ _
-            (comes-cut (rule (a .args .n)) (64 * a .args .words) (separated-node d) (apart-in d .best) (entering-of (unmerged-of d) .enter .result) (split-enters d .ready) (e .before .counted .result) (split-on e)
-            (sym ((c .before) .reaches .ensures (separated-node d) (split-enters d .ready .held)) ∙ c .if3 .taken)));
+        comes = turn-at (unmerged-of d) .loop .inv .rest _ _ (split-apart d .rest _ _
+            (comes-cut (rule (separated-node d .n)) (split-enters d .ready) (split-on e)
+            (sym (c .before .reaches .ensures (separated-node d) (split-enters d .ready .held)) ∙ c .if3 .taken)));
         left = split-left d;
       }
 
   split-choose-among-requires : split-lts.Need-choose-among-requires (split-claims t) (split-at t) split.Post split-Inv-loop split-μ-loop
-  split-choose-among-requires c κs = let d = c .before .before .before .before .before .before .before .before .before .before in (split-enters d .laid .form, (separated-node d, split-enters d .ready .held))
+  split-choose-among-requires c κs =
+      let d = separated-of (c .before .before .before .before) in (split-enters d .laid .form, (separated-node d, split-enters d .ready .held))
 
   split-enum-told : split-lts.Need-enum-told (split-claims t) (split-at t) split.Post split-Inv-loop split-μ-loop
   split-enum-told c = search needs
 
   split-improved-requires : split-lts.Need-improved-requires (split-claims t) (split-at t) split.Post split-Inv-loop split-μ-loop
-  split-improved-requires c κs = let e = split-enters (c .before .before .before .before .before .before .before .before .before .before .before .before .before .before .before) in (e .laid .forest, laid-finds _ _ _ _ _ (e .laid) (e .ready .held))
+  split-improved-requires c κs =
+      let e = split-enters (separated-of (c .before .before .before .before .before .before .before .before .before)) in (e .laid .forest, laid-finds _ _ _ _ _ (e .laid) (e .ready .held))
 
   split-same-length-13 : split-lts.Need-same-length-13 (split-claims t) (split-at t) split.Post split-Inv-loop split-μ-loop
-  split-same-length-13 c = form-same-long ((c .before .before .before .before .before .before .before .before .before .before .before .before .before .before .before .before .before .before .before .before .before .before .before .before .before .before .before .before .before .before .before .before .before .before .before .before .before .before .before .before .before .before .before .before .before .before .before .before .before .before .before .before .before .before .before) .pre .1 .enters .laid .form) (split-left (c .before .before .before .before .before .before .before .before .before .before .before .before .before .before .before .before .before .before) .stays .form)
+  split-same-length-13 c = split-long (separated-of (c .before .before .before .before .before .before .before .before .before .before .before .before)) .0
 
   split-same-length-14 : split-lts.Need-same-length-14 (split-claims t) (split-at t) split.Post split-Inv-loop split-μ-loop
-  split-same-length-14 c = ap length (split-left (c .before .before .before .before .before .before .before .before .before .before .before .before .before .before .before .before .before .before) .stays .names)
+  split-same-length-14 c = split-long (separated-of (c .before .before .before .before .before .before .before .before .before .before .before .before)) .1
 
   split-same-length-15 : split-lts.Need-same-length-15 (split-claims t) (split-at t) split.Post split-Inv-loop split-μ-loop
-  split-same-length-15 c = (c .before .before) .improved .ensures .long ∙ split-left (c .before .before .before .before .before .before .before .before .before .before .before .before .before .before .before .before .before .before) .stays .best-long
+  split-same-length-15 c = c .before .before .improved .ensures .long ∙ split-long (separated-of (c .before .before .before .before .before .before .before .before .before .before .before .before)) .2
 
   split-same-length-16 : split-lts.Need-same-length-16 (split-claims t) (split-at t) split.Post split-Inv-loop split-μ-loop
-  split-same-length-16 c = split-left (c .before .before .before .before .before .before .before .before .before .before .before .before .before .before .before .before .before .before) .stays .trail-long
+  split-same-length-16 c = split-long (separated-of (c .before .before .before .before .before .before .before .before .before .before .before .before)) .3
 
   split-returns-4 : split-lts.Need-returns-4 (split-claims t) (split-at t) split.Post split-Inv-loop split-μ-loop
   split-returns-4 c =
-      let b = c .before .before .before .before .before .before .before .before .before in
+      let m = c .before .before .before .before .before .before .before in
+      let b = uncut-of m in
       let e = counted-of b in
       let d = separated-of e in
-      let l = turn-at (unmerged-of d) in
-      let a = start-of l in
-      let f = (c .before .before) .improved .ensures in
+      let f = c .before .before .improved .ensures in
       record {
-        comes = l .loop .inv .rest _ _ (split-apart d .rest _ _
-            (comes-leaf (rule (a .args .n)) (64 * a .args .words) (separated-node d) (apart-in d .best) (entering-of (unmerged-of d) .enter .result) (split-enters d .ready) (e .before .counted .result) (split-on e)
-            (split-uncut b) _ _ (sym ((c .before .before .before .before .before .before .before) .choose-among .ensures (separated-node d) (split-enters d .ready .held)) ∙ ap choiceOf ((c .before .before .before .before .before) .enum-told .given .1))
-            (f .is (64 * a .args .words) _ (form-few (split-enters d .laid .form)) (split-ready e))));
+        comes = turn-at (unmerged-of d) .loop .inv .rest _ _ (split-apart d .rest _ _
+            (comes-leaf (rule (separated-node d .n)) (split-enters d .ready) (split-on e) (split-uncut b)
+            (sym (split-choice m) ∙ ap choiceOf (c .before .before .before .before .before .enum-told .given .1)) (f .is _ _ (form-few (split-enters d .laid .form)) (split-ready e))));
         left = left-best _ _ _ _ _ (split-left d) _ (f .long);
       }
 
@@ -580,25 +624,23 @@ module _ (t : ℕ) where
   split-enum-known-c c = search needs
 
   split-loop-less : split-lts.Need-loop-less (split-claims t) (split-at t) split.Post split-Inv-loop split-μ-loop
-  split-loop-less c = split-apart (c .before .before .before .before .before .before .before .before .before .before .before .before .before .before) .fewer
+  split-loop-less c = split-apart (separated-of (c .before .before .before .before .before .before .before .before)) .fewer
 
   split-loop-again : split-lts.Need-loop-again (split-claims t) (split-at t) split.Post split-Inv-loop split-μ-loop
   split-loop-again c =
-      let b = c .before .before .before .before .before in
+      let m = c .before .before .before in
+      let b = uncut-of m in
       let e = counted-of b in
       let d = separated-of e in
-      let l = turn-at (unmerged-of d) in
-      let a = start-of l in
-      let k = (c .before) .c .given in
-      let p : pair (a .args .n) (view (separated-node d)) ≡ some (k .0 .0, k .0 .1 .0) =
-      sym ((c .before .before .before) .choose-among .ensures (separated-node d) (split-enters d .ready .held)) ∙ ap choiceOf (k .1) in
+      let i = turn-at (unmerged-of d) .loop .inv in
+      let k = c .before .c .given in
+      let p : pair (separated-node d .n) (view (separated-node d)) ≡ some (k .0 .0, k .0 .1 .0) = sym (split-choice m) ∙ ap choiceOf (k .1) in
       record {
         enters = record { ready = split-ready e; laid = split-enters d .laid };
         chosen = p;
-        lives = split-apart d .lives ∙ l .loop .inv .lives;
-        rest = λ best r f. l .loop .inv .rest best r (split-apart d .rest best r
-            (comes-fork (rule (a .args .n)) (64 * a .args .words) (separated-node d) (apart-in d .best) (entering-of (unmerged-of d) .enter .result) (split-enters d .ready) (e .before .counted .result) (split-on e)
-            (split-uncut b) best r (k .0 .0) (k .0 .1 .0) p f));
+        lives = split-apart d .lives ∙ i .lives;
+        rest = λ best r f. i .rest best r (split-apart d .rest best r
+            (comes-fork (rule (separated-node d .n)) (split-enters d .ready) (split-on e) (split-uncut b) p f));
         left = split-left d;
       }
 

@@ -14,11 +14,11 @@ use Rattle.graphs.specs.declared.Node.{Node}
 use Rattle.zykov.specs.Tree.{below}
 use Rattle.zykov.specs.Walk.{plain}
 use Rattle.zykov.specs.Budget.{within}
-use Rattle.steps.specs.Going.{Lent, lending, nodeIn, stateOf, Comes, Left, Enters}
+use Rattle.steps.specs.Going.{Lent, lending, nodeIn, stateOf, Comes, Kept, Left, Enters}
 use Rattle.steps.specs.declared.State.{State}
 use Rattle.steps.proofs.Turns.{Counted, counted-on, counted-ready, comes-out, comes-leaf, comes-fork}
 use Rattle.steps.proofs.Splits.{living, open-pairs}
-use Rattle.steps.proofs.Undoing.{form-few, form-same-long, left-none, left-best, left-kept, kept-restored, laid-finds}
+use Rattle.steps.proofs.Undoing.{form-few, stays-long, laid-finds, laid-at, left-none, left-best, left-kept, kept-restored}
 use Rattle.steps.proofs.Rounds.{Apart, Back, round-pair, round-merges, round-enters, round-falls, round-unmerges, round-back}
 use borrow.Fn.Kinds.{In}
 use borrow.Fn.PlainCycle.{Measures, is, falls, and}
@@ -41,7 +41,9 @@ abbrev Below : ℕ → ℕ → Set → Lent → State → List ℕ → State →
 Below words n live l s best r = Comes n s best r (within (plain n) (s .budget) (below n (view (nodeIn words n live l))) (stateOf n (l .best) s))
 
 abbrev μ-explore : Measures 4 explore-kinds.ps ℕ
-μ-explore κs a = living (nodeIn (a .0) (a .1 .0) (a .1 .1 .0) (lending (a .1 .1 .1 .0 .now) (a .1 .1 .1 .1 .0 .now) (a .1 .1 .1 .1 .1 .0 .now) (a .1 .1 .1 .1 .1 .1 .0 .now)))
+μ-explore κs a =
+    let l = a .1 .1 .1 in
+    living (nodeIn (a .0) (a .1 .0) (a .1 .1 .0) (lending (l .0 .now) (l .1 .0 .now) (l .1 .1 .0 .now) (l .1 .1 .1 .0 .now)))
 
 abbrev explore-at : ℕ → In 4 explore-kinds.ps
 explore-at t = and 4 explore-kinds.ps (is 4 explore-kinds.ps μ-explore t) explore.Pre
@@ -116,14 +118,35 @@ module _ (t : ℕ) where
   abbrev Separated : Type 0
   Separated = explore-lts.After-separate-at (explore-claims t) (explore-at t) explore.Post explore-Inv-loop explore-μ-loop
 
+  abbrev Chosen : Type 0
+  Chosen = explore-lts.After-choose-among (explore-claims t) (explore-at t) explore.Post explore-Inv-loop explore-μ-loop
+
+  abbrev Compared : Type 0
+  Compared = explore-lts.After-compared (explore-claims t) (explore-at t) explore.Post explore-Inv-loop explore-μ-loop
+
+  abbrev Restored-1 : Type 0
+  Restored-1 = explore-lts.After-restore (explore-claims t) (explore-at t) explore.Post explore-Inv-loop explore-μ-loop
+
+  abbrev Restored-2 : Type 0
+  Restored-2 = explore-lts.After-restore2 (explore-claims t) (explore-at t) explore.Post explore-Inv-loop explore-μ-loop
+
+  abbrev Restored-3 : Type 0
+  Restored-3 = explore-lts.After-restore3 (explore-claims t) (explore-at t) explore.Post explore-Inv-loop explore-μ-loop
+
   abbrev start-of : Looping → Started
   start-of c = c .before .before .before .before .before
 
   abbrev turn-of : Counted-on → Looping
   turn-of c = c .before .before
 
+  abbrev counted-by : Chosen → Counted-on
+  counted-by c = c .before .before
+
+  abbrev chosen-of : Compared → Chosen
+  chosen-of c = c .before .before .before .before .before
+
   abbrev counted-of : Splitting → Counted-on
-  counted-of c = c .before .before .before .before
+  counted-of c = counted-by (c .before .before)
 
   abbrev pair-of : Merged → Splitting
   pair-of c = c .before .before .before .before
@@ -164,23 +187,16 @@ module _ (t : ℕ) where
 
   -- it is counted
   explore-on : (c : Counted-on) → let l = turn-of c in Counted (start-of l .args .n) (l .loop .best) (l .loop .t) (c .before .counted .result)
-  explore-on c =
-      let l = turn-of c in
-      let r = l .loop .inv .enters .ready in
-      counted-on (l .loop .t) (c .before .counted .result) (r .going) (c .before .counted .ensures) (start-of l .args .n) (l .loop .best) (r .fair) (c .if1 .left)
+  explore-on c = counted-on (turn-of c .loop .inv .enters .ready) (c .before .counted .ensures) (c .if1 .left)
 
   explore-enters : (c : Counted-on)
       → let l = turn-of c in
       let a = start-of l in
       Enters (a .args .words) (a .args .n) (a .args .live) (in-turn l) (a .args .at + l .loop .more) (c .before .counted .result)
-  explore-enters c =
-      let l = turn-of c in
-      let a = start-of l in
-      let e = l .loop .inv .enters in
-      record {
-        ready = counted-ready (plain (a .args .n)) (64 * a .args .words) (turning l) (l .loop .best) (l .loop .t) (e .ready) (c .before .counted .result) (explore-on c);
-        laid = e .laid;
-      }
+  explore-enters c = let e = turn-of c .loop .inv .enters in record { ready = counted-ready (e .ready) (explore-on c); laid = e .laid }
+
+  explore-choice : (c : Chosen) → let l = turn-of (counted-by c) in choiceOf (c .choose-among .result) ≡ pair (start-of l .args .n) (view (turning l))
+  explore-choice c = let l = turn-of (counted-by c) in c .choose-among .ensures (turning l) (l .loop .inv .enters .ready .held)
 
   -- and is split
   abbrev left-end : Splitting → ℕ
@@ -192,9 +208,7 @@ module _ (t : ℕ) where
   explore-chosen : (c : Splitting)
       → let l = turn-of (counted-of c) in
       pair (start-of l .args .n) (view (turning l)) ≡ some (left-end c, right-end c)
-  explore-chosen c =
-      let l = turn-of (counted-of c) in
-      sym ((c .before .before) .choose-among .ensures (turning l) (l .loop .inv .enters .ready .held)) ∙ ap choiceOf (c .c .given .1)
+  explore-chosen c = sym (explore-choice (c .before .before)) ∙ ap choiceOf (c .c .given .1)
 
   -- the walk below the merged graph has come back, and it is merged no more
   explore-back : (c : Unmerged)
@@ -222,7 +236,7 @@ module _ (t : ℕ) where
       let a = start-of l in
       Apart plain (a .args .words) (a .args .n) (a .args .live) (in-turn l) (a .args .at + l .loop .more) (left-end p) (right-end p) (counted-of p .before .counted .result) (apart-in c)
       (exploring-of (unmerged-of c) .explore .result)
-  explore-apart c = explore-back (unmerged-of c) .apart ((c .before .before .before) .if2 .left) _ _ (c .separate-at .ensures)
+  explore-apart c = explore-back (unmerged-of c) .apart (c .before .before .before .if2 .left) _ _ (c .separate-at .ensures)
 
   explore-left : (c : Separated)
       → let l = turn-of (counted-of (split-at (unmerged-of c))) in
@@ -231,6 +245,40 @@ module _ (t : ℕ) where
   explore-left c =
       let l = turn-of (counted-of (split-at (unmerged-of c))) in
       explore-apart c .left (at-first l) (start-of l .args .at) (l .loop .more) refl (l .loop .inv .left)
+
+  -- what is on the trail is restored: where the walk is out, where the node is complete, and where the walk below the merged graph is out
+  explore-kept : (c : Restored-1)
+      → let l = c .before .before .before .before .before in
+      let a = start-of l in
+      Kept (a .args .words) (at-first l) (a .args .at) (lending (c .restore .last .1 .0) (l .loop .names) (l .loop .best) (l .loop .trail))
+  explore-kept c =
+      let l = c .before .before .before .before .before in
+      let a = start-of l in
+      kept-restored (a .args .words) (at-first l) (a .args .at) (l .loop .more) (in-turn l) (l .loop .inv .left) _ (c .restore .ensures .0) (c .restore .ensures .1)
+
+  explore-kept-2 : (c : Restored-2)
+      → let m = c .before .before .before .before .before in
+      let l = turn-of (counted-by (chosen-of m)) in
+      let a = start-of l in
+      Kept (a .args .words) (at-first l) (a .args .at) (lending (c .restore2 .last .1 .0) (l .loop .names) (m .compared .last .1 .1 .1 .0) (l .loop .trail))
+  explore-kept-2 c =
+      let m = c .before .before .before .before .before in
+      let l = turn-of (counted-by (chosen-of m)) in
+      let a = start-of l in
+      kept-restored (a .args .words) (at-first l) (a .args .at) (l .loop .more) _ (left-best _ _ _ _ (in-turn l) (l .loop .inv .left) _ (m .compared .ensures .long)) _
+      (c .restore2 .ensures .0) (c .restore2 .ensures .1)
+
+  explore-kept-3 : (c : Restored-3)
+      → let u = c .before .before .before .before .before .before .before .before in
+      let l = turn-of (counted-of (split-at u)) in
+      let a = start-of l in
+      let y = back-in u in
+      Kept (a .args .words) (at-first l) (a .args .at) (lending (c .restore3 .last .1 .0) (y .names) (y .best) (y .trail))
+  explore-kept-3 c =
+      let u = c .before .before .before .before .before .before .before .before in
+      let l = turn-of (counted-of (split-at u)) in
+      let a = start-of l in
+      kept-restored (a .args .words) (at-first l) (a .args .at) (l .loop .more) (back-in u) (explore-back-left u) _ (c .restore3 .ensures .0) (c .restore3 .ensures .1)
 
   -- the trail is short enough for its places to be numbers of the machine
   explore-fits : (c : Looping) → start-of c .args .at + c .loop .more < 2 ^ 63
@@ -241,7 +289,7 @@ module _ (t : ℕ) where
       let a = c .before .before .before .before in
       let e = a .pre .1 in
       record {
-        enters = record { ready = e .ready; laid = record { form = e .laid .form; forest = e .laid .forest; named = e .laid .named; bytes = e .laid .bytes; room = omega (arith, e .laid .room) } };
+        enters = record { ready = e .ready; laid = laid-at _ (omega arith) (e .laid) };
         lives = refl;
         rest = λ best r f. f;
         left = left-none _ _ _ (e .laid .form) (omega (arith, e .laid .room));
@@ -250,32 +298,31 @@ module _ (t : ℕ) where
   explore-counted-requires : explore-lts.Need-counted-requires (explore-claims t) (explore-at t) explore.Post explore-Inv-loop explore-μ-loop
   explore-counted-requires c κs = search needs
 
-  -- what is on the trail is restored
   explore-restore-requires : explore-lts.Need-restore-requires (explore-claims t) (explore-at t) explore.Post explore-Inv-loop explore-μ-loop
-  explore-restore-requires c κs = let i = (c .before .before .before .before) .loop .inv in (i .enters .laid .form, i .left .few)
+  explore-restore-requires c κs = let i = c .before .before .before .before .loop .inv in (i .enters .laid .form, omega (arith, i .left .few))
 
   explore-same-length : explore-lts.Need-same-length (explore-claims t) (explore-at t) explore.Post explore-Inv-loop explore-μ-loop
-  explore-same-length c = form-same-long ((c .before .before .before .before .before .before .before .before .before .before .before .before) .pre .1 .laid .form) ((c .before .before) .restore .ensures .0)
+  explore-same-length c =
+      let r = c .before .before in stays-long (start-of (c .before .before .before .before .before .before .before) .pre .1 .laid .form) (explore-kept r .stays) .0
 
   explore-same-length-2 : explore-lts.Need-same-length-2 (explore-claims t) (explore-at t) explore.Post explore-Inv-loop explore-μ-loop
-  explore-same-length-2 c = ap length ((c .before .before .before .before .before .before .before) .loop .inv .left .stays .names)
+  explore-same-length-2 c =
+      let r = c .before .before in stays-long (start-of (c .before .before .before .before .before .before .before) .pre .1 .laid .form) (explore-kept r .stays) .1
 
   explore-same-length-3 : explore-lts.Need-same-length-3 (explore-claims t) (explore-at t) explore.Post explore-Inv-loop explore-μ-loop
-  explore-same-length-3 c = (c .before .before .before .before .before .before .before) .loop .inv .left .stays .best-long
+  explore-same-length-3 c =
+      let r = c .before .before in stays-long (start-of (c .before .before .before .before .before .before .before) .pre .1 .laid .form) (explore-kept r .stays) .2
 
   explore-same-length-4 : explore-lts.Need-same-length-4 (explore-claims t) (explore-at t) explore.Post explore-Inv-loop explore-μ-loop
-  explore-same-length-4 c = (c .before .before .before .before .before .before .before) .loop .inv .left .stays .trail-long
+  explore-same-length-4 c =
+      let r = c .before .before in stays-long (start-of (c .before .before .before .before .before .before .before) .pre .1 .laid .form) (explore-kept r .stays) .3
 
   explore-returns : explore-lts.Need-returns (explore-claims t) (explore-at t) explore.Post explore-Inv-loop explore-μ-loop
   explore-returns c =
       let l = c .before .before .before .before .before .before .before in
-      let a = start-of l in
-      let k = (c .before .before .before .before .before .before) .counted in
-      let r = (c .before .before) .restore .ensures in
       record {
-        comes = l .loop .inv .rest _ _
-            (comes-out (plain (a .args .n)) (64 * a .args .words) (turning l) (l .loop .best) (l .loop .t) (l .loop .inv .enters .ready) (k .result) (k .ensures) ((c .before .before .before .before .before) .if1 .taken));
-        kept = kept-restored (a .args .words) (at-first l) (a .args .at) (l .loop .more) (in-turn l) (l .loop .inv .left) _ (r .0) (r .1);
+        comes = l .loop .inv .rest _ _ (comes-out (plain (start-of l .args .n)) (l .loop .inv .enters .ready) (c .before .before .before .before .before .before .counted .ensures) (c .before .before .before .before .before .if1 .taken));
+        kept = explore-kept (c .before .before);
       }
 
   explore-choose-among-requires : explore-lts.Need-choose-among-requires (explore-claims t) (explore-at t) explore.Post explore-Inv-loop explore-μ-loop
@@ -290,34 +337,37 @@ module _ (t : ℕ) where
       let i = turn-of e .loop .inv .enters in (i .laid .forest, (laid-finds _ _ _ _ _ (i .laid) (i .ready .held), explore-on e .strict))
 
   explore-restore-requires-2 : explore-lts.Need-restore-requires-2 (explore-claims t) (explore-at t) explore.Post explore-Inv-loop explore-μ-loop
-  explore-restore-requires-2 c κs = let i = (c .before .before .before .before .before .before .before .before .before .before .before .before .before) .loop .inv in (i .enters .laid .form, i .left .few)
+  explore-restore-requires-2 c κs =
+      let i = turn-of (counted-by (chosen-of (c .before .before .before .before))) .loop .inv in (i .enters .laid .form, omega (arith, i .left .few))
 
   explore-same-length-5 : explore-lts.Need-same-length-5 (explore-claims t) (explore-at t) explore.Post explore-Inv-loop explore-μ-loop
-  explore-same-length-5 c = form-same-long ((c .before .before .before .before .before .before .before .before .before .before .before .before .before .before .before .before .before .before .before .before .before) .pre .1 .laid .form) ((c .before .before) .restore2 .ensures .0)
+  explore-same-length-5 c =
+      let r = c .before .before in stays-long (start-of (turn-of (counted-by (chosen-of (c .before .before .before .before .before .before .before)))) .pre .1 .laid .form) (explore-kept-2 r .stays) .0
 
   explore-same-length-6 : explore-lts.Need-same-length-6 (explore-claims t) (explore-at t) explore.Post explore-Inv-loop explore-μ-loop
-  explore-same-length-6 c = ap length ((c .before .before .before .before .before .before .before .before .before .before .before .before .before .before .before .before) .loop .inv .left .stays .names)
+  explore-same-length-6 c =
+      let r = c .before .before in stays-long (start-of (turn-of (counted-by (chosen-of (c .before .before .before .before .before .before .before)))) .pre .1 .laid .form) (explore-kept-2 r .stays) .1
 
   explore-same-length-7 : explore-lts.Need-same-length-7 (explore-claims t) (explore-at t) explore.Post explore-Inv-loop explore-μ-loop
-  explore-same-length-7 c = (c .before .before .before .before .before .before .before) .compared .ensures .long ∙ (c .before .before .before .before .before .before .before .before .before .before .before .before .before .before .before .before) .loop .inv .left .stays .best-long
+  explore-same-length-7 c =
+      let r = c .before .before in stays-long (start-of (turn-of (counted-by (chosen-of (c .before .before .before .before .before .before .before)))) .pre .1 .laid .form) (explore-kept-2 r .stays) .2
 
   explore-same-length-8 : explore-lts.Need-same-length-8 (explore-claims t) (explore-at t) explore.Post explore-Inv-loop explore-μ-loop
-  explore-same-length-8 c = (c .before .before .before .before .before .before .before .before .before .before .before .before .before .before .before .before) .loop .inv .left .stays .trail-long
+  explore-same-length-8 c =
+      let r = c .before .before in stays-long (start-of (turn-of (counted-by (chosen-of (c .before .before .before .before .before .before .before)))) .pre .1 .laid .form) (explore-kept-2 r .stays) .3
 
   explore-returns-2 : explore-lts.Need-returns-2 (explore-claims t) (explore-at t) explore.Post explore-Inv-loop explore-μ-loop
   explore-returns-2 c =
-      let e = c .before .before .before .before .before .before .before .before .before .before .before .before .before .before in
+      let m = c .before .before .before .before .before .before .before in
+      let d = chosen-of m in
+      let e = counted-by d in
       let l = turn-of e in
-      let a = start-of l in
       let i = l .loop .inv in
-      let f = (c .before .before .before .before .before .before .before) .compared .ensures in
-      let r = (c .before .before) .restore2 .ensures in
       record {
         comes = i .rest _ _
-            (comes-leaf (plain (a .args .n)) (64 * a .args .words) (turning l) (l .loop .best) (l .loop .t) (i .enters .ready) (e .before .counted .result) (explore-on e) refl _ _
-            (sym ((c .before .before .before .before .before .before .before .before .before .before .before .before) .choose-among .ensures (turning l) (i .enters .ready .held)) ∙ ap choiceOf ((c .before .before .before .before .before .before .before .before .before .before) .enum-told .given .1))
-            (f .is (64 * a .args .words) _ (form-few (i .enters .laid .form)) (explore-enters e .ready)));
-        kept = kept-restored (a .args .words) (at-first l) (a .args .at) (l .loop .more) _ (left-best _ _ _ _ (in-turn l) (i .left) _ (f .long)) _ (r .0) (r .1);
+            (comes-leaf (plain (start-of l .args .n)) (i .enters .ready) (explore-on e) refl (sym (explore-choice d) ∙ ap choiceOf (c .before .before .before .before .before .before .before .before .before .before .enum-told .given .1))
+            (m .compared .ensures .is _ _ (form-few (i .enters .laid .form)) (explore-enters e .ready)));
+        kept = explore-kept-2 (c .before .before);
       }
 
   explore-enum-known-c : explore-lts.Need-enum-known-c (explore-claims t) (explore-at t) explore.Post explore-Inv-loop explore-μ-loop
@@ -334,7 +384,7 @@ module _ (t : ℕ) where
       let e = explore-enters (counted-of p) in omega (arith, round-pair e (explore-chosen p) .1, form-few (e .laid .form))
 
   explore-add-explore : explore-lts.Need-add-explore (explore-claims t) (explore-at t) explore.Post explore-Inv-loop explore-μ-loop
-  explore-add-explore c = omega (arith, explore-fits (c .before .before .before .before .before .before .before .before .before .before .before .before .before .before .before .before .before .before .before))
+  explore-add-explore c = omega (arith, explore-fits (turn-of (counted-of (pair-of (merged-of (c .before .before .before .before))))))
 
   explore-explore-requires : explore-lts.Need-explore-requires (explore-claims t) (explore-at t) explore.Post explore-Inv-loop explore-μ-loop
   explore-explore-requires c κs =
@@ -361,19 +411,23 @@ module _ (t : ℕ) where
       )
 
   explore-restore-requires-3 : explore-lts.Need-restore-requires-3 (explore-claims t) (explore-at t) explore.Post explore-Inv-loop explore-μ-loop
-  explore-restore-requires-3 c κs = let l = explore-back-left (c .before .before .before .before .before .before .before) in (l .stays .form, l .few)
+  explore-restore-requires-3 c κs = let l = explore-back-left (c .before .before .before .before .before .before .before) in (l .stays .form, omega (arith, l .few))
 
   explore-same-length-9 : explore-lts.Need-same-length-9 (explore-claims t) (explore-at t) explore.Post explore-Inv-loop explore-μ-loop
-  explore-same-length-9 c = form-same-long ((c .before .before .before .before .before .before .before .before .before .before .before .before .before .before .before .before .before .before .before .before .before .before .before .before .before .before .before .before .before .before .before .before .before .before .before .before .before .before .before .before .before .before .before .before .before .before) .pre .1 .laid .form) ((c .before .before) .restore3 .ensures .0)
+  explore-same-length-9 c =
+      let r = c .before .before in stays-long (start-of (turn-of (counted-of (split-at (c .before .before .before .before .before .before .before .before .before .before)))) .pre .1 .laid .form) (explore-kept-3 r .stays) .0
 
   explore-same-length-10 : explore-lts.Need-same-length-10 (explore-claims t) (explore-at t) explore.Post explore-Inv-loop explore-μ-loop
-  explore-same-length-10 c = ap length (explore-back-left (c .before .before .before .before .before .before .before .before .before .before) .stays .names)
+  explore-same-length-10 c =
+      let r = c .before .before in stays-long (start-of (turn-of (counted-of (split-at (c .before .before .before .before .before .before .before .before .before .before)))) .pre .1 .laid .form) (explore-kept-3 r .stays) .1
 
   explore-same-length-11 : explore-lts.Need-same-length-11 (explore-claims t) (explore-at t) explore.Post explore-Inv-loop explore-μ-loop
-  explore-same-length-11 c = explore-back-left (c .before .before .before .before .before .before .before .before .before .before) .stays .best-long
+  explore-same-length-11 c =
+      let r = c .before .before in stays-long (start-of (turn-of (counted-of (split-at (c .before .before .before .before .before .before .before .before .before .before)))) .pre .1 .laid .form) (explore-kept-3 r .stays) .2
 
   explore-same-length-12 : explore-lts.Need-same-length-12 (explore-claims t) (explore-at t) explore.Post explore-Inv-loop explore-μ-loop
-  explore-same-length-12 c = explore-back-left (c .before .before .before .before .before .before .before .before .before .before) .stays .trail-long
+  explore-same-length-12 c =
+      let r = c .before .before in stays-long (start-of (turn-of (counted-of (split-at (c .before .before .before .before .before .before .before .before .before .before)))) .pre .1 .laid .form) (explore-kept-3 r .stays) .3
 
   explore-returns-3 : explore-lts.Need-returns-3 (explore-claims t) (explore-at t) explore.Post explore-Inv-loop explore-μ-loop
   explore-returns-3 c =
@@ -381,24 +435,24 @@ module _ (t : ℕ) where
       let p = split-at u in
       let e = counted-of p in
       let l = turn-of e in
-      let a = start-of l in
       let i = l .loop .inv in
-      let r = (c .before .before) .restore3 .ensures in
       record {
         comes = i .rest _ _
-            (comes-fork (plain (a .args .n)) (64 * a .args .words) (turning l) (l .loop .best) (l .loop .t) (i .enters .ready) (e .before .counted .result) (explore-on e) refl _ _
-            (left-end p) (right-end p) (explore-chosen p) (explore-back u .out ((c .before .before .before .before .before) .if2 .taken)));
-        kept = kept-restored (a .args .words) (at-first l) (a .args .at) (l .loop .more) (back-in u) (explore-back-left u) _ (r .0) (r .1);
+            (comes-fork (plain (start-of l .args .n)) (i .enters .ready) (explore-on e) refl (explore-chosen p) (explore-back u .out (c .before .before .before .before .before .if2 .taken)));
+        kept = explore-kept-3 (c .before .before);
       }
 
   explore-add-separate-at : explore-lts.Need-add-separate-at (explore-claims t) (explore-at t) explore.Post explore-Inv-loop explore-μ-loop
-  explore-add-separate-at c = omega (arith, explore-fits (c .before .before .before .before .before .before .before .before .before .before .before .before .before .before .before .before .before .before .before .before .before .before .before .before .before .before .before .before .before .before .before .before .before .before .before .before .before .before))
+  explore-add-separate-at c = omega (arith, explore-fits (turn-of (counted-of (split-at (c .before .before .before .before .before .before .before)))))
 
   explore-separate-at-requires : explore-lts.Need-separate-at-requires (explore-claims t) (explore-at t) explore.Post explore-Inv-loop explore-μ-loop
   explore-separate-at-requires c κs = let u = c .before .before .before .before .before .before .before in (u .unmerge-at .ensures .form, explore-back u .room)
 
   explore-add-more : explore-lts.Need-add-more (explore-claims t) (explore-at t) explore.Post explore-Inv-loop explore-μ-loop
-  explore-add-more c = let l = explore-left (c .before .before .before .before) in let a = c .before .before .before .before .before .before .before .before .before .before .before .before .before .before .before .before .before .before .before .before .before .before .before .before .before .before .before .before .before .before .before .before .before .before .before .before .before .before .before .before .before .before .before .before .before .before .before .before in omega (arith, l .few, l .stays .trail-long, a .good .1 .1 .1 .1 .1 .1 .0)
+  explore-add-more c =
+      let d = c .before .before .before .before in
+      let l = explore-left d in
+      omega (arith, l .few, l .stays .trail-long, start-of (turn-of (counted-of (split-at (unmerged-of d)))) .good .1 .1 .1 .1 .1 .1 .0)
 
   explore-loop-less : explore-lts.Need-loop-less (explore-claims t) (explore-at t) explore.Post explore-Inv-loop explore-μ-loop
   explore-loop-less c = explore-apart (c .before .before .before .before) .fewer
@@ -409,14 +463,12 @@ module _ (t : ℕ) where
       let p = split-at (unmerged-of d) in
       let e = counted-of p in
       let l = turn-of e in
-      let a = start-of l in
       let i = l .loop .inv in
       record {
         enters = explore-apart d .enters _ (omega arith);
         lives = explore-apart d .lives ∙ i .lives;
         rest = λ best r f. i .rest best r
-            (comes-fork (plain (a .args .n)) (64 * a .args .words) (turning l) (l .loop .best) (l .loop .t) (i .enters .ready) (e .before .counted .result) (explore-on e) refl best r
-            (left-end p) (right-end p) (explore-chosen p) (explore-apart d .rest best r f));
+            (comes-fork (plain (start-of l .args .n)) (i .enters .ready) (explore-on e) refl (explore-chosen p) (explore-apart d .rest best r f));
         left = explore-left d;
       }
 
