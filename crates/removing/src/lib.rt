@@ -153,7 +153,7 @@ pub fn shrink(rows: &[u64], bound: usize) -> Shrunk
         few = second(few, v, u);
         gone += 1;
         present = without(present, v);
-        goes = next(rows, present, bound);
+        goes = next(rows, present, bound); // L is kept
     }
     Shrunk {
         present: present,

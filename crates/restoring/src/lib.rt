@@ -182,7 +182,8 @@ pub fn number(n: usize, seats: Seats, colours: &mut [u8])
     let mut next: u8 = 0;
     let mut i: usize = 0;
     while i < n {
-        let j = group[i] as usize;
+        let found = group[i]; // the group's number so far
+        let j = found as usize;
         let w = lowest(sets[j]);
         if w == i {
             colours[i] = next;

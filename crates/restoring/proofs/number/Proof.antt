@@ -41,8 +41,8 @@ known c =
       numbering-long (s .args .seats .group) (s .args .colours .now) (l .colours) (l .next) (l .i) (l .inv .1) (omega (arith, t, s .pre .bytes)),
     )
 
-array-read-j : tie.Need-array-read-j Inv-loop μ-loop
-array-read-j c = known c .0
+array-read-found : tie.Need-array-read-found Inv-loop μ-loop
+array-read-found c = known c .0
 
 cast-j : tie.Need-cast-j Inv-loop μ-loop
 cast-j c = omega (arith, known c .1)
@@ -122,7 +122,7 @@ number-spec =
     Inv-loop
     μ-loop
     loop-holds
-    array-read-j
+    array-read-found
     cast-j
     mul-lowest
     array-read-lowest
