@@ -56,7 +56,8 @@ module _ {words n : ℕ} {live : Set} {l : Lent} {top a b : ℕ} {t : State} (e 
   pub round-merges : (length (l .names) ≡ 64 * words) × (a < 64 * words) × (b < 64 * words)
   round-merges = (e .laid .named, round-pair .0, round-pair .1)
 
-  module _ {rows′ names′ : List ℕ} {d : Undo} (m : Merging words live (l .rows) (l .names) a b rows′ names′ d) (fewer : Set) (w : IsWithout (num live) b (num fewer)) where
+  module _ {rows′ names′ : List ℕ} {d : Undo} (m : Merging words live (l .rows) (l .names) a b rows′ names′ d) (fewer : Set)
+      (w : IsWithout (num live) b (num fewer)) where
     abbrev mixed : Lent
     mixed = lending rows′ names′ (l .best) (l .trail)
 
@@ -95,13 +96,15 @@ module _ {words n : ℕ} {live : Set} {l : Lent} {top a b : ℕ} {t : State} (e 
             → Apart R words n live l top a b t (lending rows names″ (x .best) trail) t′
         apart o rows trail part = record {
           enters = λ i f. record {
-            ready = separated-ready (64 * words) g a b (e .ready .held) c R (l .best) t (nodeIn words n fewer mixed) becomes (x .best) t′ (en .comes) o (nodeIn words n live (z rows trail)) parted;
+            ready = separated-ready (64 * words) g a b (e .ready .held) c R (l .best) t (nodeIn words n fewer mixed) becomes (x .best) t′ (en .comes)
+                o (nodeIn words n live (z rows trail)) parted;
             laid = parted-laid words n live l top a b at-g (e .laid) y again rows trail part i f;
           };
           left = left-parted words n live l top a b at-g (e .laid) y again rows trail part;
           fewer = separated-falls (64 * words) g a b (e .ready .held) c (nodeIn words n live (z rows trail)) parted;
           lives = separated-lives (64 * words) g a b (e .ready .held) c (nodeIn words n live (z rows trail)) parted;
-          rest = onward-on (64 * words) g a b (e .ready .held) c R (l .best) t (nodeIn words n fewer mixed) becomes (x .best) t′ (en .comes) o (nodeIn words n live (z rows trail)) parted;
+          rest = onward-on (64 * words) g a b (e .ready .held) c R (l .best) t (nodeIn words n fewer mixed) becomes (x .best) t′ (en .comes) o
+              (nodeIn words n live (z rows trail)) parted;
         }
           where
             parted : BecomesAt (64 * words) g (nodeIn words n live (lending rows names″ (x .best) trail)) (separate a b (view g))

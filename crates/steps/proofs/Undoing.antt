@@ -45,7 +45,8 @@ laid-finds words n live l at laid held = (omega (arith, held .few, laid .named),
 
 -- all that is lent is as long as it was
 pub stays-long : {words : ℕ} {l : Lent} {at : ℕ} {x : Lent} → Form words (l .rows) → Stays words l at x
-    → (length (x .rows) ≡ length (l .rows)) × (length (x .names) ≡ length (l .names)) × (length (x .best) ≡ length (l .best)) × (length (x .trail) ≡ length (l .trail))
+    → (length (x .rows) ≡ length (l .rows)) × (length (x .names) ≡ length (l .names)) × (length (x .best) ≡ length (l .best)) ×
+    (length (x .trail) ≡ length (l .trail))
 stays-long f s = (form-same-long f (s .form), ap length (s .names), s .best-long, s .trail-long)
 
 -- what is laid is so at another place of the trail that is as far
@@ -109,7 +110,8 @@ module _ (words : ℕ) (l : Lent) (at : ℕ) where
         long = left .rows .long ∙ ap length (sym (k .rows));
         is = λ i j.
             left .rows .is i j ∙ ap (λ (m : List ℕ). has (getD m i zero) j && not (isMet (64 * words) (x .trail) at more i j)) (sym (k .rows))
-            ∙ ap (λ (t : Bool). has (getD (held words (y .rows)) i zero) j && not t) (sym (met-same (64 * words) (y .trail) (x .trail) at more i j (k .stays .trail)));
+            ∙ ap (λ (t : Bool). has (getD (held words (y .rows)) i zero) j && not t)
+            (sym (met-same (64 * words) (y .trail) (x .trail) at more i j (k .stays .trail)));
       };
       few = omega (arith, left .few, k .stays .trail-long);
     }
@@ -141,13 +143,15 @@ module _ (words n : ℕ) (live : Set) (l : Lent) (top a b : ℕ) (p : PairAt (64
   root-b : getD names b zero ≡ b
   root-b = called-root names (laid .forest) b in-b (p .chosen .live-v .self)
 
-  module _ (rows′ names′ : List ℕ) (d : Undo) (mer : Merging words live (l .rows) names a b rows′ names′ d) (fewer : Set) (w : IsWithout (num live) b (num fewer)) where
+  module _ (rows′ names′ : List ℕ) (d : Undo) (mer : Merging words live (l .rows) names a b rows′ names′ d) (fewer : Set)
+      (w : IsWithout (num live) b (num fewer)) where
     abbrev mixed : Lent
     mixed = lending rows′ names′ (l .best) (l .trail)
 
     renaming : Renamed (called names) a b (called names′)
     renaming =
-        subst (λ (ns : List ℕ). Renamed (called names) a b (called ns)) (sym (mer .names-are)) (renamed-is names (laid .forest) a b (p .chosen .less) in-b root-a root-b)
+        subst (λ (ns : List ℕ). Renamed (called names) a b (called ns)) (sym (mer .names-are))
+        (renamed-is names (laid .forest) a b (p .chosen .less) in-b root-a root-b)
 
     pub merged-becomes : BecomesAt (64 * words) g (nodeIn words n fewer mixed) (merge a b (view g))
     merged-becomes = mer .rows-are .is g (num fewer) (called names′) p w renaming
@@ -167,7 +171,8 @@ module _ (words n : ℕ) (live : Set) (l : Lent) (top a b : ℕ) (p : PairAt (64
     kept-again x k rows″ names″ un = record {
       stays = record {
         form = un .form;
-        names = un .names-are ∙ ap (λ (ns : List ℕ). set ns b b) (k .stays .names ∙ mer .names-are) ∙ names-back names (laid .forest) a b (p .chosen .less) in-b root-a root-b;
+        names = un .names-are ∙ ap (λ (ns : List ℕ). set ns b b) (k .stays .names ∙ mer .names-are) ∙ names-back names (laid .forest) a b
+            (p .chosen .less) in-b root-a root-b;
         best-long = k .stays .best-long;
         trail-long = k .stays .trail-long;
         trail = k .stays .trail;
@@ -194,7 +199,8 @@ module _ (words n : ℕ) (live : Set) (l : Lent) (top a b : ℕ) (p : PairAt (64
 
       pub parted-becomes : BecomesAt (64 * words) g (nodeIn words n live apart) (separate a b (view g))
       parted-becomes =
-          subst (λ (ns : List ℕ). BecomesAt (64 * words) g (nodeIn words n live (lending rows ns (y .best) trail)) (separate a b (view g))) (sym (k .stays .names)) (parts .is g p)
+          subst (λ (ns : List ℕ). BecomesAt (64 * words) g (nodeIn words n live (lending rows ns (y .best) trail)) (separate a b (view g)))
+          (sym (k .stays .names)) (parts .is g p)
 
       long : length trail ≡ length (l .trail)
       long = ap length (part .trail-is) ∙ length-set (y .trail) top (a * 256 + b) ∙ k .stays .trail-long
@@ -227,7 +233,8 @@ module _ (words n : ℕ) (live : Set) (l : Lent) (top a b : ℕ) (p : PairAt (64
           trail = λ j h. below-top j (omega arith) ∙ left .stays .trail j h;
         };
         rows = subst (λ (i : ℕ). Restored (64 * words) trail at i (held words rows) (held words (l₀ .rows))) (sym (add-one more))
-            (restored-next (64 * words) (l .trail) trail at more a b (held words (l .rows)) (held words rows) (held words (l₀ .rows)) (form-few (laid .form)) (left .rows)
+            (restored-next (64 * words) (l .trail) trail at more a b (held words (l .rows)) (held words rows) (held words (l₀ .rows))
+            (form-few (laid .form)) (left .rows)
             (parts .back g p) (λ j h. below-top j (omega arith)) (ap (λ (i : ℕ). getD trail i zero) (sym e) ∙ at-top) few-a few-b);
         few = omega (arith, long, trail-room, k .stays .trail-long);
       }

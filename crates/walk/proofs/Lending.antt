@@ -30,5 +30,6 @@ module _ (rows : List ℕ) where
   }
 
   -- rows of one word are the list itself
-  pub walked-one : (R : Rule) (m : ℕ) (best : List ℕ) (r : State) → Walked R (length rows) (rowsOf 1 (length rows) rows) m best r → Walked R (length rows) rows m best r
+  pub walked-one : (R : Rule) (m : ℕ) (best : List ℕ) (r : State) → Walked R (length rows) (rowsOf 1 (length rows) rows) m best r → Walked R
+      (length rows) rows m best r
   walked-one R m best r w = subst (λ (l : List ℕ). Walked R (length rows) l m best r) (rows-one rows (length rows) refl) w

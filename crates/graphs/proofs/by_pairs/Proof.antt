@@ -24,7 +24,8 @@ loop-holds : tie.Need-loop-holds Inv-loop μ-loop
 loop-holds c =
     let a = c .before .args in (
       omega arith,
-      ap (λ (l : Lead). over (lead (shared (a .rows .now) (a .near)) (a .u)) l (members (has (a .apart)) 64)) (sofar-same (a .best) (a .u) (a .best .size) (a .best .v) (omega arith)),
+      ap (λ (l : Lead). over (lead (shared (a .rows .now) (a .near)) (a .u)) l (members (has (a .apart)) 64))
+          (sofar-same (a .best) (a .u) (a .best .size) (a .best .v) (omega arith)),
     )
 
 lowest-requires : tie.Need-lowest-requires Inv-loop μ-loop
@@ -67,7 +68,8 @@ loop-again c =
       over-next (lead (shared (a .rows .now) (a .near)) (a .u)) (sofar (a .best) (a .u) (l .top) (l .at)) _ (l .left) (v .result) (r .result) (v .ensures)
           (r .ensures (v .result) (v .ensures))
           (sofar-more (a .best) (a .u) (k .result + 1) (v .result) (omega (arith, l .inv .0))
-          ∙ lead-taken 64 (a .rows .now) (a .near) (a .u) (v .result) (m .result) (k .result) (sofar (a .best) (a .u) (l .top) (l .at)) (m .ensures) (k .ensures) (omega (arith, s)))
+          ∙ lead-taken 64 (a .rows .now) (a .near) (a .u) (v .result) (m .result) (k .result) (sofar (a .best) (a .u) (l .top) (l .at)) (m .ensures)
+          (k .ensures) (omega (arith, s)))
           ∙ l .inv .1,
     )
 
@@ -89,7 +91,8 @@ loop-again-2 c =
       omega (arith, l .inv .0),
       over-next (lead (shared (a .rows .now) (a .near)) (a .u)) (sofar (a .best) (a .u) (l .top) (l .at)) _ (l .left) (v .result) (r .result) (v .ensures)
           (r .ensures (v .result) (v .ensures))
-          (lead-kept 64 (a .rows .now) (a .near) (a .u) (v .result) (m .result) (k .result) (sofar (a .best) (a .u) (l .top) (l .at)) (m .ensures) (k .ensures) (omega (arith, s)))
+          (lead-kept 64 (a .rows .now) (a .near) (a .u) (v .result) (m .result) (k .result) (sofar (a .best) (a .u) (l .top) (l .at)) (m .ensures)
+          (k .ensures) (omega (arith, s)))
           ∙ l .inv .1,
     )
 
@@ -98,14 +101,16 @@ returns c =
     let l = c .before .before .before .loop in
     let a = c .before .before .before .before .before .args in
     sym (sofar-more (a .best) (a .u) (l .top) (l .at) (c .if2 .taken))
-    ∙ sym (over-none 64 (lead (shared (a .rows .now) (a .near)) (a .u)) (sofar (a .best) (a .u) (l .top) (l .at)) (l .left) (c .before .before .loop-test .left)) ∙ l .inv .1
+    ∙ sym (over-none 64 (lead (shared (a .rows .now) (a .near)) (a .u)) (sofar (a .best) (a .u) (l .top) (l .at)) (l .left)
+    (c .before .before .loop-test .left)) ∙ l .inv .1
 
 returns-2 : tie.Need-returns-2 Inv-loop μ-loop
 returns-2 c =
     let l = c .before .before .before .loop in
     let a = c .before .before .before .before .before .args in
     sym (sofar-same (a .best) (a .u) (l .top) (l .at) (c .if2 .left))
-    ∙ sym (over-none 64 (lead (shared (a .rows .now) (a .near)) (a .u)) (sofar (a .best) (a .u) (l .top) (l .at)) (l .left) (c .before .before .loop-test .left)) ∙ l .inv .1
+    ∙ sym (over-none 64 (lead (shared (a .rows .now) (a .near)) (a .u)) (sofar (a .best) (a .u) (l .top) (l .at)) (l .left)
+    (c .before .before .loop-test .left)) ∙ l .inv .1
 
 pub by-pairs-spec : {M : Type 1} → statement M
 by-pairs-spec =

@@ -196,14 +196,16 @@ module _ (t : ℕ) where
       }
 
   enter-choose-among-requires : enter-lts.Need-choose-among-requires (enter-claims t) (enter-at t) enter.Post
-  enter-choose-among-requires c κs = let a = c .before .before .before .before .before .before .before .before .before .before in (a .pre .1 .laid .form, (here a, a .pre .1 .ready .held))
+  enter-choose-among-requires c κs = let a = c .before .before .before .before .before .before .before .before .before .before in
+      (a .pre .1 .laid .form, (here a, a .pre .1 .ready .held))
 
   enter-enum-told : enter-lts.Need-enum-told (enter-claims t) (enter-at t) enter.Post
   enter-enum-told c = search needs
 
   enter-improved-requires : enter-lts.Need-improved-requires (enter-claims t) (enter-at t) enter.Post
   enter-improved-requires c κs =
-      let a = begin (going (c .before .before .before .before .before .before)) in (a .pre .1 .laid .forest, laid-finds _ _ _ _ _ (a .pre .1 .laid) (a .pre .1 .ready .held))
+      let a = begin (going (c .before .before .before .before .before .before)) in
+      (a .pre .1 .laid .forest, laid-finds _ _ _ _ _ (a .pre .1 .laid) (a .pre .1 .ready .held))
 
   enter-enum-known-c : enter-lts.Need-enum-known-c (enter-claims t) (enter-at t) enter.Post
   enter-enum-known-c c = search needs
@@ -215,12 +217,17 @@ module _ (t : ℕ) where
       let a = begin e in
       let p : living (here a) * 2 + 1 ≡ t = a .pre .0 in (
         omega arith,
-        record { enters = record { ready = enter-ready e; laid = a .pre .1 .laid }; chosen = sym (enter-choice d) ∙ ap choiceOf (c .before .before .before .before .before .c .given .1) },
+        record {
+          enters = record { ready = enter-ready e; laid = a .pre .1 .laid };
+          chosen = sym (enter-choice d) ∙ ap choiceOf
+              (c .before .before .before .before .before .c .given .1);
+        },
       )
 
   -- what split has left is restored
   enter-restore-requires : enter-lts.Need-restore-requires (enter-claims t) (enter-at t) enter.Post
-  enter-restore-requires c κs = let l = c .before .before .before .before .before .before .before .before .before .before .split .ensures .left in (l .stays .form, omega (arith, l .few))
+  enter-restore-requires c κs = let l = c .before .before .before .before .before .before .before .before .before .before .split .ensures .left in
+      (l .stays .form, omega (arith, l .few))
 
   enter-same-length-2 : enter-lts.Need-same-length-2 (enter-claims t) (enter-at t) enter.Post
   enter-same-length-2 c = refl
@@ -239,7 +246,8 @@ module _ (t : ℕ) where
       let a = begin e in
       let f = c .before .before .improved .ensures in
       record {
-        comes = comes-leaf (rule (a .args .n)) (a .pre .1 .ready) (enter-on e) (enter-uncut b) (sym (enter-choice d) ∙ ap choiceOf (c .before .before .before .before .before .enum-told .given .1))
+        comes = comes-leaf (rule (a .args .n)) (a .pre .1 .ready) (enter-on e) (enter-uncut b)
+            (sym (enter-choice d) ∙ ap choiceOf (c .before .before .before .before .before .enum-told .given .1))
             (f .is (64 * a .args .words) _ (form-few (a .pre .1 .laid .form)) (enter-ready e));
         kept = kept-best (a .args .words) (lent-to a) (a .args .at) _ (a .pre .1 .laid .form) (f .long);
       }
@@ -254,21 +262,29 @@ module _ (t : ℕ) where
       let a = begin (going (below-of (choosing-of s))) in
       kept-restored (a .args .words) (lent-to a) (a .args .at) _ _ (s .split .ensures .left) _ (c .restore .ensures .0) (c .restore .ensures .1)
 
+  -- what is lent is as long as it was
+  enter-long : (c : Restored)
+      → let s = c .before .before .before .before .before .before .before .before .before .before .before in
+      let x = lent-to (begin (going (below-of (choosing-of s)))) in
+      let y = s .split .last in
+      (length (c .restore .last .1 .0) ≡ length (x .rows)) × (length (y .1 .1 .1 .1 .0) ≡ length (x .names)) × (length (y .1 .1 .1 .1 .1 .0) ≡ length (x .best))
+      × (length (y .1 .1 .1 .1 .1 .1 .0) ≡ length (x .trail))
+  enter-long c = stays-long
+      (begin (going (below-of
+      (choosing-of (c .before .before .before .before .before .before .before .before .before .before .before)))) .pre .1 .laid .form)
+      (enter-kept c .stays)
+
   enter-same-length-5 : enter-lts.Need-same-length-5 (enter-claims t) (enter-at t) enter.Post
-  enter-same-length-5 c =
-      let r = c .before .before .before in stays-long (begin (going (below-of (choosing-of (c .before .before .before .before .before .before .before .before .before .before .before .before .before .before)))) .pre .1 .laid .form) (enter-kept r .stays) .0
+  enter-same-length-5 c = enter-long (c .before .before .before) .0
 
   enter-same-length-6 : enter-lts.Need-same-length-6 (enter-claims t) (enter-at t) enter.Post
-  enter-same-length-6 c =
-      let r = c .before .before .before in stays-long (begin (going (below-of (choosing-of (c .before .before .before .before .before .before .before .before .before .before .before .before .before .before)))) .pre .1 .laid .form) (enter-kept r .stays) .1
+  enter-same-length-6 c = enter-long (c .before .before .before) .1
 
   enter-same-length-7 : enter-lts.Need-same-length-7 (enter-claims t) (enter-at t) enter.Post
-  enter-same-length-7 c =
-      let r = c .before .before .before in stays-long (begin (going (below-of (choosing-of (c .before .before .before .before .before .before .before .before .before .before .before .before .before .before)))) .pre .1 .laid .form) (enter-kept r .stays) .2
+  enter-same-length-7 c = enter-long (c .before .before .before) .2
 
   enter-same-length-8 : enter-lts.Need-same-length-8 (enter-claims t) (enter-at t) enter.Post
-  enter-same-length-8 c =
-      let r = c .before .before .before in stays-long (begin (going (below-of (choosing-of (c .before .before .before .before .before .before .before .before .before .before .before .before .before .before)))) .pre .1 .laid .form) (enter-kept r .stays) .3
+  enter-same-length-8 c = enter-long (c .before .before .before) .3
 
   enter-returns-4 : enter-lts.Need-returns-4 (enter-claims t) (enter-at t) enter.Post
   enter-returns-4 c =
@@ -278,7 +294,8 @@ module _ (t : ℕ) where
       let e = going b in
       let a = begin e in
       record {
-        comes = comes-fork (rule (a .args .n)) (a .pre .1 .ready) (enter-on e) (enter-uncut b) (sym (enter-choice d) ∙ ap choiceOf (pair-of s .c .given .1)) (s .split .ensures .comes);
+        comes = comes-fork (rule (a .args .n)) (a .pre .1 .ready) (enter-on e) (enter-uncut b)
+            (sym (enter-choice d) ∙ ap choiceOf (pair-of s .c .given .1)) (s .split .ensures .comes);
         kept = enter-kept (c .before .before .before);
       }
 
@@ -381,7 +398,8 @@ module _ (t : ℕ) where
   split-back : (c : Unmerged)
       → let l = turn-at c in
       let a = start-of l in
-      Back rule (a .args .words) (a .args .n) (a .args .live) (in-turn l) (a .args .at + l .loop .more) (l .loop .a) (l .loop .b) (l .loop .t) (back-in c) (entering-of c .enter .result)
+      Back rule (a .args .words) (a .args .n) (a .args .live) (in-turn l) (a .args .at + l .loop .more) (l .loop .a) (l .loop .b) (l .loop .t)
+      (back-in c) (entering-of c .enter .result)
   split-back c =
       let x = entering-of c in
       let w = fewer-of x in
@@ -399,7 +417,8 @@ module _ (t : ℕ) where
   split-apart : (c : Separated)
       → let l = turn-at (unmerged-of c) in
       let a = start-of l in
-      Apart rule (a .args .words) (a .args .n) (a .args .live) (in-turn l) (a .args .at + l .loop .more) (l .loop .a) (l .loop .b) (l .loop .t) (apart-in c) (entering-of (unmerged-of c) .enter .result)
+      Apart rule (a .args .words) (a .args .n) (a .args .live) (in-turn l) (a .args .at + l .loop .more) (l .loop .a) (l .loop .b) (l .loop .t)
+      (apart-in c) (entering-of (unmerged-of c) .enter .result)
   split-apart c = split-back (unmerged-of c) .apart (c .before .before .before .if1 .left) _ _ (c .separate-at .ensures)
 
   split-enters : (c : Separated)
@@ -446,13 +465,15 @@ module _ (t : ℕ) where
   split-back-long : (c : Unmerged)
       → let x = at-first (turn-at c) in
       let y = back-in c in
-      (length (y .rows) ≡ length (x .rows)) × (length (y .names) ≡ length (x .names)) × (length (y .best) ≡ length (x .best)) × (length (y .trail) ≡ length (x .trail))
+      (length (y .rows) ≡ length (x .rows)) × (length (y .names) ≡ length (x .names)) × (length (y .best) ≡ length (x .best)) ×
+      (length (y .trail) ≡ length (x .trail))
   split-back-long c = stays-long (start-of (turn-at c) .pre .1 .enters .laid .form) (split-back-left c .stays)
 
   split-long : (c : Separated)
       → let x = at-first (turn-at (unmerged-of c)) in
       let y = apart-in c in
-      (length (y .rows) ≡ length (x .rows)) × (length (y .names) ≡ length (x .names)) × (length (y .best) ≡ length (x .best)) × (length (y .trail) ≡ length (x .trail))
+      (length (y .rows) ≡ length (x .rows)) × (length (y .names) ≡ length (x .names)) × (length (y .best) ≡ length (x .best)) ×
+      (length (y .trail) ≡ length (x .trail))
   split-long c = stays-long (start-of (turn-at (unmerged-of c)) .pre .1 .enters .laid .form) (split-left c .stays)
 
   -- the trail is short enough for its places to be numbers of the machine
@@ -476,7 +497,8 @@ module _ (t : ℕ) where
 
   split-without-requires : split-lts.Need-without-requires (split-claims t) (split-at t) split.Post split-Inv-loop split-μ-loop
   split-without-requires c κs =
-      let i = c .before .before .before .before .before .before .before .loop .inv in omega (arith, round-pair (i .enters) (i .chosen) .1, form-few (i .enters .laid .form))
+      let i = c .before .before .before .before .before .before .before .loop .inv in omega
+      (arith, round-pair (i .enters) (i .chosen) .1, form-few (i .enters .laid .form))
 
   split-add-enter : split-lts.Need-add-enter (split-claims t) (split-at t) split.Post split-Inv-loop split-μ-loop
   split-add-enter c = omega (arith, split-fits (turn-of (merged-of (c .before .before .before .before))))
@@ -501,7 +523,10 @@ module _ (t : ℕ) where
       let i = turn-of m .loop .inv in
       let d = m .merge-at .ensures in (
         x .enter .ensures .kept .stays .form,
-        (round-unmerges (i .enters) (i .chosen) d (w .without .result) (w .without .ensures) rule (x .enter .ensures), (d .rows-are .old-fits, d .rows-are .near-fits)),
+        (
+          round-unmerges (i .enters) (i .chosen) d (w .without .result) (w .without .ensures) rule (x .enter .ensures),
+          (d .rows-are .old-fits, d .rows-are .near-fits),
+        ),
       )
 
   split-same-length : split-lts.Need-same-length (split-claims t) (split-at t) split.Post split-Inv-loop split-μ-loop
@@ -558,7 +583,8 @@ module _ (t : ℕ) where
       }
 
   split-reaches-requires : split-lts.Need-reaches-requires (split-claims t) (split-at t) split.Post split-Inv-loop split-μ-loop
-  split-reaches-requires c κs = let d = c .before .before .before .before .before .before .before in (split-enters d .laid .form, (separated-node d, split-enters d .ready .held))
+  split-reaches-requires c κs = let d = c .before .before .before .before .before .before .before in
+      (split-enters d .laid .form, (separated-node d, split-enters d .ready .held))
 
   split-same-length-9 : split-lts.Need-same-length-9 (split-claims t) (split-at t) split.Post split-Inv-loop split-μ-loop
   split-same-length-9 c = split-long (separated-of (c .before .before .before)) .0
@@ -592,7 +618,8 @@ module _ (t : ℕ) where
 
   split-improved-requires : split-lts.Need-improved-requires (split-claims t) (split-at t) split.Post split-Inv-loop split-μ-loop
   split-improved-requires c κs =
-      let e = split-enters (separated-of (c .before .before .before .before .before .before .before .before .before)) in (e .laid .forest, laid-finds _ _ _ _ _ (e .laid) (e .ready .held))
+      let e = split-enters (separated-of (c .before .before .before .before .before .before .before .before .before)) in
+      (e .laid .forest, laid-finds _ _ _ _ _ (e .laid) (e .ready .held))
 
   split-same-length-13 : split-lts.Need-same-length-13 (split-claims t) (split-at t) split.Post split-Inv-loop split-μ-loop
   split-same-length-13 c = split-long (separated-of (c .before .before .before .before .before .before .before .before .before .before .before .before)) .0
@@ -601,7 +628,8 @@ module _ (t : ℕ) where
   split-same-length-14 c = split-long (separated-of (c .before .before .before .before .before .before .before .before .before .before .before .before)) .1
 
   split-same-length-15 : split-lts.Need-same-length-15 (split-claims t) (split-at t) split.Post split-Inv-loop split-μ-loop
-  split-same-length-15 c = c .before .before .improved .ensures .long ∙ split-long (separated-of (c .before .before .before .before .before .before .before .before .before .before .before .before)) .2
+  split-same-length-15 c = c .before .before .improved .ensures .long ∙ split-long
+      (separated-of (c .before .before .before .before .before .before .before .before .before .before .before .before)) .2
 
   split-same-length-16 : split-lts.Need-same-length-16 (split-claims t) (split-at t) split.Post split-Inv-loop split-μ-loop
   split-same-length-16 c = split-long (separated-of (c .before .before .before .before .before .before .before .before .before .before .before .before)) .3
@@ -616,7 +644,8 @@ module _ (t : ℕ) where
       record {
         comes = turn-at (unmerged-of d) .loop .inv .rest _ _ (split-apart d .rest _ _
             (comes-leaf (rule (separated-node d .n)) (split-enters d .ready) (split-on e) (split-uncut b)
-            (sym (split-choice m) ∙ ap choiceOf (c .before .before .before .before .before .enum-told .given .1)) (f .is _ _ (form-few (split-enters d .laid .form)) (split-ready e))));
+            (sym (split-choice m) ∙ ap choiceOf (c .before .before .before .before .before .enum-told .given .1))
+            (f .is _ _ (form-few (split-enters d .laid .form)) (split-ready e))));
         left = left-best _ _ _ _ _ (split-left d) _ (f .long);
       }
 

@@ -215,15 +215,18 @@ module _ (t : ℕ) where
       → let p = split-at c in
       let l = turn-of (counted-of p) in
       let a = start-of l in
-      Back plain (a .args .words) (a .args .n) (a .args .live) (in-turn l) (a .args .at + l .loop .more) (left-end p) (right-end p) (counted-of p .before .counted .result) (back-in c) (exploring-of c .explore .result)
+      Back plain (a .args .words) (a .args .n) (a .args .live) (in-turn l) (a .args .at + l .loop .more) (left-end p) (right-end p)
+      (counted-of p .before .counted .result) (back-in c) (exploring-of c .explore .result)
   explore-back c =
       let x = exploring-of c in
       let w = fewer-of x in
       let m = merged-of w in
       let p = pair-of m in
-      round-back (explore-enters (counted-of p)) (explore-chosen p) (m .merge-at .ensures) (w .without .result) (w .without .ensures) plain (x .explore .ensures) (c .unmerge-at .ensures)
+      round-back (explore-enters (counted-of p)) (explore-chosen p) (m .merge-at .ensures) (w .without .result) (w .without .ensures) plain
+      (x .explore .ensures) (c .unmerge-at .ensures)
 
-  explore-back-left : (c : Unmerged) → let l = turn-of (counted-of (split-at c)) in let a = start-of l in Left (a .args .words) (at-first l) (a .args .at) (l .loop .more) (back-in c)
+  explore-back-left : (c : Unmerged) → let l = turn-of (counted-of (split-at c)) in let a = start-of l in Left (a .args .words) (at-first l)
+      (a .args .at) (l .loop .more) (back-in c)
   explore-back-left c =
       let l = turn-of (counted-of (split-at c)) in
       let a = start-of l in
@@ -234,7 +237,8 @@ module _ (t : ℕ) where
       → let p = split-at (unmerged-of c) in
       let l = turn-of (counted-of p) in
       let a = start-of l in
-      Apart plain (a .args .words) (a .args .n) (a .args .live) (in-turn l) (a .args .at + l .loop .more) (left-end p) (right-end p) (counted-of p .before .counted .result) (apart-in c)
+      Apart plain (a .args .words) (a .args .n) (a .args .live) (in-turn l) (a .args .at + l .loop .more) (left-end p) (right-end p)
+      (counted-of p .before .counted .result) (apart-in c)
       (exploring-of (unmerged-of c) .explore .result)
   explore-apart c = explore-back (unmerged-of c) .apart (c .before .before .before .if2 .left) _ _ (c .separate-at .ensures)
 
@@ -265,7 +269,8 @@ module _ (t : ℕ) where
       let m = c .before .before .before .before .before in
       let l = turn-of (counted-by (chosen-of m)) in
       let a = start-of l in
-      kept-restored (a .args .words) (at-first l) (a .args .at) (l .loop .more) _ (left-best _ _ _ _ (in-turn l) (l .loop .inv .left) _ (m .compared .ensures .long)) _
+      kept-restored (a .args .words) (at-first l) (a .args .at) (l .loop .more) _
+      (left-best _ _ _ _ (in-turn l) (l .loop .inv .left) _ (m .compared .ensures .long)) _
       (c .restore2 .ensures .0) (c .restore2 .ensures .1)
 
   explore-kept-3 : (c : Restored-3)
@@ -278,7 +283,35 @@ module _ (t : ℕ) where
       let u = c .before .before .before .before .before .before .before .before in
       let l = turn-of (counted-of (split-at u)) in
       let a = start-of l in
-      kept-restored (a .args .words) (at-first l) (a .args .at) (l .loop .more) (back-in u) (explore-back-left u) _ (c .restore3 .ensures .0) (c .restore3 .ensures .1)
+      kept-restored (a .args .words) (at-first l) (a .args .at) (l .loop .more) (back-in u) (explore-back-left u) _ (c .restore3 .ensures .0)
+      (c .restore3 .ensures .1)
+
+  explore-long : (c : Restored-1)
+      → let l = c .before .before .before .before .before in
+      let x = at-first l in
+      let y = in-turn l in
+      (length (c .restore .last .1 .0) ≡ length (x .rows)) × (length (y .names) ≡ length (x .names)) × (length (y .best) ≡ length (x .best))
+      × (length (y .trail) ≡ length (x .trail))
+  explore-long c = stays-long (start-of (c .before .before .before .before .before) .pre .1 .laid .form) (explore-kept c .stays)
+
+  explore-long-2 : (c : Restored-2)
+      → let m = c .before .before .before .before .before in
+      let l = turn-of (counted-by (chosen-of m)) in
+      let x = at-first l in
+      let y = lending (l .loop .rows) (l .loop .names) (m .compared .last .1 .1 .1 .0) (l .loop .trail) in
+      (length (c .restore2 .last .1 .0) ≡ length (x .rows)) × (length (y .names) ≡ length (x .names)) × (length (y .best) ≡ length (x .best))
+      × (length (y .trail) ≡ length (x .trail))
+  explore-long-2 c = stays-long (start-of (turn-of (counted-by (chosen-of (c .before .before .before .before .before)))) .pre .1 .laid .form)
+      (explore-kept-2 c .stays)
+
+  explore-long-3 : (c : Restored-3)
+      → let u = c .before .before .before .before .before .before .before .before in
+      let x = at-first (turn-of (counted-of (split-at u))) in
+      let y = back-in u in
+      (length (c .restore3 .last .1 .0) ≡ length (x .rows)) × (length (y .names) ≡ length (x .names)) × (length (y .best) ≡ length (x .best))
+      × (length (y .trail) ≡ length (x .trail))
+  explore-long-3 c = stays-long (start-of (turn-of (counted-of (split-at
+      (c .before .before .before .before .before .before .before .before)))) .pre .1 .laid .form) (explore-kept-3 c .stays)
 
   -- the trail is short enough for its places to be numbers of the machine
   explore-fits : (c : Looping) → start-of c .args .at + c .loop .more < 2 ^ 63
@@ -302,26 +335,23 @@ module _ (t : ℕ) where
   explore-restore-requires c κs = let i = c .before .before .before .before .loop .inv in (i .enters .laid .form, omega (arith, i .left .few))
 
   explore-same-length : explore-lts.Need-same-length (explore-claims t) (explore-at t) explore.Post explore-Inv-loop explore-μ-loop
-  explore-same-length c =
-      let r = c .before .before in stays-long (start-of (c .before .before .before .before .before .before .before) .pre .1 .laid .form) (explore-kept r .stays) .0
+  explore-same-length c = explore-long (c .before .before) .0
 
   explore-same-length-2 : explore-lts.Need-same-length-2 (explore-claims t) (explore-at t) explore.Post explore-Inv-loop explore-μ-loop
-  explore-same-length-2 c =
-      let r = c .before .before in stays-long (start-of (c .before .before .before .before .before .before .before) .pre .1 .laid .form) (explore-kept r .stays) .1
+  explore-same-length-2 c = explore-long (c .before .before) .1
 
   explore-same-length-3 : explore-lts.Need-same-length-3 (explore-claims t) (explore-at t) explore.Post explore-Inv-loop explore-μ-loop
-  explore-same-length-3 c =
-      let r = c .before .before in stays-long (start-of (c .before .before .before .before .before .before .before) .pre .1 .laid .form) (explore-kept r .stays) .2
+  explore-same-length-3 c = explore-long (c .before .before) .2
 
   explore-same-length-4 : explore-lts.Need-same-length-4 (explore-claims t) (explore-at t) explore.Post explore-Inv-loop explore-μ-loop
-  explore-same-length-4 c =
-      let r = c .before .before in stays-long (start-of (c .before .before .before .before .before .before .before) .pre .1 .laid .form) (explore-kept r .stays) .3
+  explore-same-length-4 c = explore-long (c .before .before) .3
 
   explore-returns : explore-lts.Need-returns (explore-claims t) (explore-at t) explore.Post explore-Inv-loop explore-μ-loop
   explore-returns c =
       let l = c .before .before .before .before .before .before .before in
       record {
-        comes = l .loop .inv .rest _ _ (comes-out (plain (start-of l .args .n)) (l .loop .inv .enters .ready) (c .before .before .before .before .before .before .counted .ensures) (c .before .before .before .before .before .if1 .taken));
+        comes = l .loop .inv .rest _ _ (comes-out (plain (start-of l .args .n)) (l .loop .inv .enters .ready)
+            (c .before .before .before .before .before .before .counted .ensures) (c .before .before .before .before .before .if1 .taken));
         kept = explore-kept (c .before .before);
       }
 
@@ -341,20 +371,16 @@ module _ (t : ℕ) where
       let i = turn-of (counted-by (chosen-of (c .before .before .before .before))) .loop .inv in (i .enters .laid .form, omega (arith, i .left .few))
 
   explore-same-length-5 : explore-lts.Need-same-length-5 (explore-claims t) (explore-at t) explore.Post explore-Inv-loop explore-μ-loop
-  explore-same-length-5 c =
-      let r = c .before .before in stays-long (start-of (turn-of (counted-by (chosen-of (c .before .before .before .before .before .before .before)))) .pre .1 .laid .form) (explore-kept-2 r .stays) .0
+  explore-same-length-5 c = explore-long-2 (c .before .before) .0
 
   explore-same-length-6 : explore-lts.Need-same-length-6 (explore-claims t) (explore-at t) explore.Post explore-Inv-loop explore-μ-loop
-  explore-same-length-6 c =
-      let r = c .before .before in stays-long (start-of (turn-of (counted-by (chosen-of (c .before .before .before .before .before .before .before)))) .pre .1 .laid .form) (explore-kept-2 r .stays) .1
+  explore-same-length-6 c = explore-long-2 (c .before .before) .1
 
   explore-same-length-7 : explore-lts.Need-same-length-7 (explore-claims t) (explore-at t) explore.Post explore-Inv-loop explore-μ-loop
-  explore-same-length-7 c =
-      let r = c .before .before in stays-long (start-of (turn-of (counted-by (chosen-of (c .before .before .before .before .before .before .before)))) .pre .1 .laid .form) (explore-kept-2 r .stays) .2
+  explore-same-length-7 c = explore-long-2 (c .before .before) .2
 
   explore-same-length-8 : explore-lts.Need-same-length-8 (explore-claims t) (explore-at t) explore.Post explore-Inv-loop explore-μ-loop
-  explore-same-length-8 c =
-      let r = c .before .before in stays-long (start-of (turn-of (counted-by (chosen-of (c .before .before .before .before .before .before .before)))) .pre .1 .laid .form) (explore-kept-2 r .stays) .3
+  explore-same-length-8 c = explore-long-2 (c .before .before) .3
 
   explore-returns-2 : explore-lts.Need-returns-2 (explore-claims t) (explore-at t) explore.Post explore-Inv-loop explore-μ-loop
   explore-returns-2 c =
@@ -365,7 +391,9 @@ module _ (t : ℕ) where
       let i = l .loop .inv in
       record {
         comes = i .rest _ _
-            (comes-leaf (plain (start-of l .args .n)) (i .enters .ready) (explore-on e) refl (sym (explore-choice d) ∙ ap choiceOf (c .before .before .before .before .before .before .before .before .before .before .enum-told .given .1))
+            (comes-leaf (plain (start-of l .args .n)) (i .enters .ready) (explore-on e) refl
+            (sym (explore-choice d) ∙ ap choiceOf
+            (c .before .before .before .before .before .before .before .before .before .before .enum-told .given .1))
             (m .compared .ensures .is _ _ (form-few (i .enters .laid .form)) (explore-enters e .ready)));
         kept = explore-kept-2 (c .before .before);
       }
@@ -407,27 +435,26 @@ module _ (t : ℕ) where
       let p = pair-of m in
       let d = m .merge-at .ensures in (
         x .explore .ensures .kept .stays .form,
-        (round-unmerges (explore-enters (counted-of p)) (explore-chosen p) d (w .without .result) (w .without .ensures) plain (x .explore .ensures), (d .rows-are .old-fits, d .rows-are .near-fits)),
+        (
+          round-unmerges (explore-enters (counted-of p)) (explore-chosen p) d (w .without .result) (w .without .ensures) plain (x .explore .ensures),
+          (d .rows-are .old-fits, d .rows-are .near-fits),
+        ),
       )
 
   explore-restore-requires-3 : explore-lts.Need-restore-requires-3 (explore-claims t) (explore-at t) explore.Post explore-Inv-loop explore-μ-loop
   explore-restore-requires-3 c κs = let l = explore-back-left (c .before .before .before .before .before .before .before) in (l .stays .form, omega (arith, l .few))
 
   explore-same-length-9 : explore-lts.Need-same-length-9 (explore-claims t) (explore-at t) explore.Post explore-Inv-loop explore-μ-loop
-  explore-same-length-9 c =
-      let r = c .before .before in stays-long (start-of (turn-of (counted-of (split-at (c .before .before .before .before .before .before .before .before .before .before)))) .pre .1 .laid .form) (explore-kept-3 r .stays) .0
+  explore-same-length-9 c = explore-long-3 (c .before .before) .0
 
   explore-same-length-10 : explore-lts.Need-same-length-10 (explore-claims t) (explore-at t) explore.Post explore-Inv-loop explore-μ-loop
-  explore-same-length-10 c =
-      let r = c .before .before in stays-long (start-of (turn-of (counted-of (split-at (c .before .before .before .before .before .before .before .before .before .before)))) .pre .1 .laid .form) (explore-kept-3 r .stays) .1
+  explore-same-length-10 c = explore-long-3 (c .before .before) .1
 
   explore-same-length-11 : explore-lts.Need-same-length-11 (explore-claims t) (explore-at t) explore.Post explore-Inv-loop explore-μ-loop
-  explore-same-length-11 c =
-      let r = c .before .before in stays-long (start-of (turn-of (counted-of (split-at (c .before .before .before .before .before .before .before .before .before .before)))) .pre .1 .laid .form) (explore-kept-3 r .stays) .2
+  explore-same-length-11 c = explore-long-3 (c .before .before) .2
 
   explore-same-length-12 : explore-lts.Need-same-length-12 (explore-claims t) (explore-at t) explore.Post explore-Inv-loop explore-μ-loop
-  explore-same-length-12 c =
-      let r = c .before .before in stays-long (start-of (turn-of (counted-of (split-at (c .before .before .before .before .before .before .before .before .before .before)))) .pre .1 .laid .form) (explore-kept-3 r .stays) .3
+  explore-same-length-12 c = explore-long-3 (c .before .before) .3
 
   explore-returns-3 : explore-lts.Need-returns-3 (explore-claims t) (explore-at t) explore.Post explore-Inv-loop explore-μ-loop
   explore-returns-3 c =
@@ -438,7 +465,8 @@ module _ (t : ℕ) where
       let i = l .loop .inv in
       record {
         comes = i .rest _ _
-            (comes-fork (plain (start-of l .args .n)) (i .enters .ready) (explore-on e) refl (explore-chosen p) (explore-back u .out (c .before .before .before .before .before .if2 .taken)));
+            (comes-fork (plain (start-of l .args .n)) (i .enters .ready) (explore-on e) refl (explore-chosen p)
+            (explore-back u .out (c .before .before .before .before .before .if2 .taken)));
         kept = explore-kept-3 (c .before .before);
       }
 

@@ -15,7 +15,8 @@ abbrev μ-loop : tie.MeasureT-loop
 μ-loop rows held₀ i₀ held i = length rows - i
 
 long : (l : tie.At-loop Inv-loop μ-loop) → length (l .loop .held) ≡ length (l .before .args .held .now)
-long l = let a = l .before in onto-long (a .args .rows .now) (a .args .held .now) (l .loop .held) (l .loop .i) (l .loop .inv .1) (l .loop .inv .0) (omega (arith, l .loop .inv .0, a .pre))
+long l = let a = l .before in onto-long (a .args .rows .now) (a .args .held .now) (l .loop .held) (l .loop .i) (l .loop .inv .1) (l .loop .inv .0)
+    (omega (arith, l .loop .inv .0, a .pre))
 
 loop-holds : tie.Need-loop-holds Inv-loop μ-loop
 loop-holds c = (omega arith, refl)

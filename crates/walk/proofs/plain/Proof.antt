@@ -46,7 +46,8 @@ slice-aggregate-told : tie.Need-slice-aggregate-told
 slice-aggregate-told c = search needs
 
 told-requires : tie.Need-told-requires
-told-requires c κs = let o = opened (c .before .before .before .before .before .before .before .before .before .before .before) in (o, omega (arith, o .sound .apart .inside .few, c .before .before .before .best2 .given))
+told-requires c κs =
+    let o = opened (c .before .before .before .before .before .before .before .before .before .before .before) in (o, omega (arith, o .sound .apart .inside .few, c .before .before .before .best2 .given))
 
 returns : tie.Need-returns
 returns c =
@@ -61,8 +62,10 @@ same-length c = search needs
 returns-2 : tie.Need-returns-2
 returns-2 c =
     let w = c .before .before .before .before .before .before .before .before .before .plain-walk in
-    let a = c .before .before .before .before .before .before .before .before .before .before .before .before .before .before .before .before .before .before .before .args in
-    promised-told 64 plain plainWalk plain-answers (a .rows .now) (a .colours .now) (a .budget) (opened (c .before .before .before .before .before .before .before .before .before .before .before .before .before .before)) _ (w .result)
+    let d = c .before .before .before .before .before .before .before .before .before .before .before .before .before .before in
+    let a = d .before .before .before .before .before .args in
+    promised-told 64 plain plainWalk plain-answers (a .rows .now) (a .colours .now) (a .budget)
+    (opened d) _ (w .result)
     (walked-one (a .rows .now) (plain (length (a .rows .now))) (a .budget) _ (w .result) (w .ensures)) _ _ (c .before .before .told .ensures)
 
 pub plain-spec : {M : Type 1} → statement M
