@@ -67,7 +67,8 @@ fn first_covered(rows: &[u64], present: u64) -> Goes
     while left != 0 {
         let v = lowest(left);
         left = rest(left);
-        let near = meet(present, rows[v]); // clashes with present ones
+        let row = rows[v];
+        let near = meet(present, row); // clashes with present ones
         let others = sharing(rows, near, less(without(present, v), near)); // who clashes with v does not clash with itself
         if others != 0 {
             let u = lowest(others);
@@ -98,7 +99,8 @@ fn first_few(rows: &[u64], present: u64, bound: usize) -> Goes
     while left != 0 {
         let v = lowest(left);
         left = rest(left);
-        let clashes = size(meet(present, rows[v]));
+        let row = rows[v];
+        let clashes = size(meet(present, row));
         if clashes < bound {
             found = Goes {
                 found: true,

@@ -44,11 +44,11 @@ lowest-requires c κs = search needs
 rest-requires : tie.Need-rest-requires Inv-loop μ-loop
 rest-requires c κs = search needs
 
-mul-meet : tie.Need-mul-meet Inv-loop μ-loop
-mul-meet c = search needs
+mul-row : tie.Need-mul-row Inv-loop μ-loop
+mul-row c = search needs
 
-shared-slice-read-meet : tie.Need-shared-slice-read-meet Inv-loop μ-loop
-shared-slice-read-meet c =
+shared-slice-read-row : tie.Need-shared-slice-read-row Inv-loop μ-loop
+shared-slice-read-row c =
     let low = c .before .before .lowest in
     c .before .before .before .before .loop .inv .within (low .result) (low .ensures .member) .0
 
@@ -90,7 +90,7 @@ loop-again c =
     let v = low .result in
     let here = l .inv .within v (low .ensures .member) .1 in
     looked-found (length (a .rows .now)) (has (a .present)) (test (a .rows .now) (a .present)) (pick (a .rows .now) (a .present)) 64 (l .left) v (l .found) (l .inv)
-    (low .ensures) 0 _
+    (low .ensures) _ _
     (covered-some (a .rows .now) (a .present) (s .pre) v (met .result) (out .result) (cut .result) (others .result) here (met .ensures) (out .ensures) (cut .ensures) (others .ensures) 64
     (c .lowest2 .result) (c .lowest2 .ensures))
     refl
@@ -137,8 +137,8 @@ first-covered-spec =
     loop-holds
     lowest-requires
     rest-requires
-    mul-meet
-    shared-slice-read-meet
+    mul-row
+    shared-slice-read-row
     meet-requires
     without-requires
     less-requires

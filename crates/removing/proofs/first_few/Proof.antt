@@ -44,11 +44,11 @@ lowest-requires c κs = search needs
 rest-requires : tie.Need-rest-requires Inv-loop μ-loop
 rest-requires c κs = search needs
 
-mul-meet : tie.Need-mul-meet Inv-loop μ-loop
-mul-meet c = search needs
+mul-row : tie.Need-mul-row Inv-loop μ-loop
+mul-row c = search needs
 
-shared-slice-read-meet : tie.Need-shared-slice-read-meet Inv-loop μ-loop
-shared-slice-read-meet c =
+shared-slice-read-row : tie.Need-shared-slice-read-row Inv-loop μ-loop
+shared-slice-read-row c =
     let low = c .before .before .lowest in
     c .before .before .before .before .loop .inv .within (low .result) (low .ensures .member) .0
 
@@ -74,7 +74,7 @@ loop-again c =
     let met = c .before .before .meet in
     let v = low .result in
     looked-found (length (a .rows .now)) (has (a .present)) (test (a .rows .now) (a .present) (a .bound)) (pick (a .rows .now) (a .present)) 64 (l .left) v (l .found) (l .inv)
-    (low .ensures) 0 _
+    (low .ensures) _ _
     (few-some (a .rows .now) (a .present) (s .pre .1) (a .bound) v (met .result) (l .inv .within v (low .ensures .member) .1) (met .ensures) 64 (s .pre .0)
     (omega (arith, c .before .size .ensures, c .if1 .taken)))
     refl (ap some (removal-few v)) refl
@@ -115,8 +115,8 @@ first-few-spec =
     loop-holds
     lowest-requires
     rest-requires
-    mul-meet
-    shared-slice-read-meet
+    mul-row
+    shared-slice-read-row
     meet-requires
     size-requires
     loop-less
