@@ -4,6 +4,7 @@ use Rattle.wide.specs.Words.{num}
 use Rattle.wide.specs.Form.{held}
 use Rattle.wide.proofs.FormLaws.{meet-fits, less-fits, join-fits}
 use Rattle.undo.proofs.BackLaws.{merges-is}
+use native.Mathlib.Omega.{arith}
 use borrow.Author.Needs.{needs}
 use Rattle.undo.proofs.merge.Statement.{statement}
 use Rattle.undo.proofs.merge.Tie as tie
@@ -30,7 +31,7 @@ link-requires c κs =
     let near = c .before .less in (
       s .pre .0,
       (
-        s .pre .1 .0,
+        omega (arith, s .pre .1 .0, s .pre .1 .1),
         less-fits cap (num (beside .result)) (num (old .result)) (num (near .result))
             (meet-fits cap (num (other .result)) (num (s .args .live)) (num (beside .result)) (other .ensures .1) (beside .ensures)) (near .ensures),
       ),
