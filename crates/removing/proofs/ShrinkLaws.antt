@@ -70,7 +70,8 @@ pub record Going (cap L : ℕ) (rows who other : List ℕ) (used : Bool) (m pres
   pub long-who : length who ≡ cap
   pub long-other : length other ≡ cap
   pub entries : Entries (length rows) present
-  pub still : removed who other m ++ removals L (length rows) (matrix rows) (size (length rows) present) (has present) ≡ gone L (length rows) (matrix rows)
+  pub still : removed who other m ++ removals L (length rows) (matrix rows) (size (length rows) present) (has present)
+      ≡ gone L (length rows) (matrix rows)
   pub stays : _≡_ {A = ℕ → Bool} (left (everyone (length rows)) (removed who other m)) (has present)
   pub second : used ≡ some? isFew (removed who other m)
   pub all : m + size (length rows) present ≡ length rows
@@ -106,7 +107,9 @@ module _ (cap L : ℕ) (rows : List ℕ) (most : length rows ≤ cap) where
       next-some = sym (h .turn) ∙ ap (λ (b : Bool). cond b (some r) none) e
 
       allowed : Allowed L n (matrix rows) (has present) r
-      allowed = next-allowed L n (matrix rows) (has present) r (subst (Next L n (matrix rows) (has present)) next-some (next-is L n (matrix rows) (has present)))
+      allowed =
+          next-allowed L n (matrix rows) (has present) r (subst (Next L n (matrix rows) (has present)) next-some
+          (next-is L n (matrix rows) (has present)))
 
       who-is : (entry r < n) × T (has present (entry r))
       who-is = allowed-entry L n (matrix rows) (has present) r allowed
@@ -142,8 +145,12 @@ module _ (cap L : ℕ) (rows : List ℕ) (most : length rows ≤ cap) where
             ∙ append-assoc (removed who other m) (r ∷ []) (removals L n (matrix rows) (size n present′) (has present′))
             ∙ ap (λ (l : List Removal). removed who other m ++ l) (sym onward)
             ∙ h .still;
-        stays = ap (left (everyone n)) more ∙ left-more (everyone n) (removed who other m) r ∙ ap₂ without (removal-entry (g .who) (g .other)) (h .stays) ∙ sym gone-one;
-        second = ap₂ (λ (a b : Bool). a || b) (h .second) (sym (removal-isFew (g .who) (g .other))) ∙ sym (some-more (removed who other m) r) ∙ ap (some? isFew) (sym more);
+        stays =
+            ap (left (everyone n)) more ∙ left-more (everyone n) (removed who other m) r
+            ∙ ap₂ without (removal-entry (g .who) (g .other)) (h .stays) ∙ sym gone-one;
+        second =
+            ap₂ (λ (a b : Bool). a || b) (h .second) (sym (removal-isFew (g .who) (g .other)))
+            ∙ sym (some-more (removed who other m) r) ∙ ap (some? isFew) (sym more);
         all = omega (arith, h .all, fewer);
         turn = t;
       }
@@ -161,7 +168,8 @@ module _ (cap L : ℕ) (rows : List ℕ) (most : length rows ≤ cap) where
           onward =
               ap (λ (k : ℕ). removals L n (matrix rows) k (has present)) (sym fewer)
               ∙ removals-next L n (matrix rows) (size n present′) (has present) r next-some
-              ∙ ap (λ (p : ℕ → Bool). r ∷ removals L n (matrix rows) (size n present′) p) (ap (λ (v : ℕ). without v (has present)) (removal-entry (g .who) (g .other)) ∙ sym gone-one)
+              ∙ ap (λ (p : ℕ → Bool). r ∷ removals L n (matrix rows) (size n present′) p)
+              (ap (λ (v : ℕ). without v (has present)) (removal-entry (g .who) (g .other)) ∙ sym gone-one)
 
       pub going-less : (present′ : ℕ) → IsWithout present (g .who) present′ → size n present′ < size n present
       going-less present′ w = omega (arith, size-without n present (g .who) present′ who-below who-here w)

@@ -27,7 +27,8 @@ all-agree (suc n) p q h = ap₂ (λ (a b : Bool). a && b) (all-agree n p q (λ i
 
 pub table-agree : {A : Type 0} (n : ℕ) (f g : ℕ → A) → ((i : ℕ) → i < n → f i ≡ g i) → table f n ≡ table g n
 table-agree zero f g h = refl
-table-agree (suc n) f g h = ap₂ (λ x l. x ∷ l) (h zero (omega arith)) (table-agree n (λ i. f (suc i)) (λ i. g (suc i)) (λ i b. h (suc i) (omega arith)))
+table-agree (suc n) f g h =
+    ap₂ (λ x l. x ∷ l) (h zero (omega arith)) (table-agree n (λ i. f (suc i)) (λ i. g (suc i)) (λ i b. h (suc i) (omega arith)))
 
 -- labels that are equal below n have one division
 pub division-agree : (n : ℕ) (f g : ℕ → ℕ) → ((i : ℕ) → i < n → f i ≡ g i) → division ℕ-discrete n f ≡ division ℕ-discrete n g
@@ -57,7 +58,8 @@ module _ (n : ℕ) (clash : ℕ → ℕ → Bool) where
 
     home-alike : (v : ℕ) → home n clash p s v ≡ home n clash p t v
     home-alike v =
-        ap (λ (l : List ℕ). orElse (s .many) (first l)) (members-agree (s .many) (admits n clash p s v) (admits n clash p t v) (λ j b. admits-alike v j))
+        ap (λ (l : List ℕ). orElse (s .many) (first l)) (members-agree (s .many) (admits n clash p s v) (admits n clash p t v)
+        (λ j b. admits-alike v j))
         ∙ ap (λ (m : ℕ). orElse m (lowest (admits n clash p t v) m)) (a .many)
 
   -- somebody who is in the same group of both

@@ -136,7 +136,8 @@ module _ (most : ℕ) (rows : List ℕ) (sound : SoundUpTo most rows) (s : Shrun
 
       -- ---- refused
 
-      pub shrunk-refused : m ≤ length inner → (a : Answer) → OneOf (1 ∷ 2 ∷ 3 ∷ 4 ∷ 5 ∷ 6 ∷ []) (tagOf the-type a) → PromisedUpTo most (boundedWalk mycielskian) lent inner budget a inner′
+      pub shrunk-refused : m ≤ length inner → (a : Answer) → OneOf (1 ∷ 2 ∷ 3 ∷ 4 ∷ 5 ∷ 6 ∷ []) (tagOf the-type a)
+          → PromisedUpTo most (boundedWalk mycielskian) lent inner budget a inner′
           → PromisedUpTo most (shrunkWalk mycielskian) rows before budget a before
       shrunk-refused b (Accepted k c l q) f p = absurd (miss (1 ∷ 2 ∷ 3 ∷ 4 ∷ 5 ∷ 6 ∷ []) 0 tt f)
       shrunk-refused b Many f p = absurd (let z : ⊥ = omega (arith, p .0, small-sound .apart .inside .few) in z)
@@ -205,7 +206,8 @@ module _ (most : ℕ) (rows : List ℕ) (sound : SoundUpTo most rows) (s : Shrun
           }
 
           seats-ok : Fits n clash (left (everyone n) rs) (seatingOf seats)
-          seats-ok = alike-fits n clash (left (everyone n) rs) (spread n l best) (seatingOf seats) seats-alike (omega (arith, h .long-group, few)) spread-ok
+          seats-ok =
+              alike-fits n clash (left (everyone n) rs) (spread n l best) (seatingOf seats) seats-alike (omega (arith, h .long-group, few)) spread-ok
 
           pub returning : Returning most rows (s .who) (s .other) (s .gone) seats
           returning = record {
@@ -241,17 +243,21 @@ module _ (most : ℕ) (rows : List ℕ) (sound : SoundUpTo most rows) (s : Shrun
             numbered : division ℕ-discrete n (at (full .group)) ≡ shrunkWalk mycielskian n clash .best
             unfolding l
             numbered =
-                division-agree n (at (full .group)) (at (back n clash (everyone n) rs (spread n l best) .group)) (λ i c. sym (full-alike .group i c (lt→ltb i n c)))
-                ∙ ap (λ (x : List Removal). division ℕ-discrete n (at (back n clash (everyone n) x (spread n (members (left (everyone n) x) n) best) .group))) (w .went)
+                division-agree n (at (full .group)) (at (back n clash (everyone n) rs (spread n l best) .group))
+                (λ i c. sym (full-alike .group i c (lt→ltb i n c)))
+                ∙ ap (λ (x : List Removal). division ℕ-discrete n
+                (at (back n clash (everyone n) x (spread n (members (left (everyone n) x) n) best) .group))) (w .went)
                 ∙ ap (whole L n clash) best-is
 
             pub shrunk-accepts : (j q : ℕ) → j ≡ cond (s .few) (max L k) k → q ≡ ofList cliqueSet rows
-                → PromisedUpTo most (shrunkWalk mycielskian) rows before budget (Accepted j nodes leaves q) (division ℕ-discrete n (at (full .group)) ++ drop n before)
+                → PromisedUpTo most (shrunkWalk mycielskian) rows before budget (Accepted j nodes leaves q)
+                (division ℕ-discrete n (at (full .group)) ++ drop n before)
             shrunk-accepts j q e shown = record {
               opened = opened;
               fewest = subst (Chromatic n clash) k-is (demands.shrunk-chromatic mycielskian mycielskian-bound n clash valid least);
               division = subst (Division n) (sym taken) (demands.shrunk-division mycielskian mycielskian-bound n clash valid least);
-              free = subst (λ (x : List ℕ). T (clashFree n clash x)) (sym taken) (demands.shrunk-free mycielskian mycielskian-bound n clash valid least);
+              free = subst (λ (x : List ℕ). T (clashFree n clash x)) (sym taken)
+                  (demands.shrunk-free mycielskian mycielskian-bound n clash valid least);
               many = ap (groups 0) taken ∙ k-is;
               best = taken;
               count = p .count ∙ ap (λ (d : State). d .nodes) small-walk;

@@ -51,7 +51,8 @@ loop-again : tie.Need-loop-again Inv-loop μ-loop
 loop-again c =
     let l = c .before .before .before .loop in
     let low = c .before .lowest in
-    placing-next 64 (c .before .before .before .before .args .present) (l .out) (l .left) (l .i) (low .result) (c .rest .result) (l .inv) (low .ensures)
+    placing-next 64 (c .before .before .before .before .args .present) (l .out) (l .left) (l .i) (low .result) (c .rest .result) (l .inv)
+    (low .ensures)
     (c .rest .ensures (low .result) (low .ensures))
 
 returns : tie.Need-returns Inv-loop μ-loop
