@@ -1,18 +1,18 @@
 -- Laws of the loop that shrinks: who has gone, and then who is still to go, are all who go. Assumes nothing.
 use mathlib.Core.Path.{_≡_, refl, sym, ap, ap₂, _∙_, subst}
 use mathlib.Core.Logic.{_≢_}
-use mathlib.Core.Bool.{Bool, true, false, not, _&&_, _||_, cond}
+use mathlib.Core.Bool.{Bool, true, false, not, _||_, cond}
 use mathlib.Core.List.{List, [], _∷_, _++_, append-assoc, append-nil}
-use mathlib.Core.Option.{Option, none, some}
+use mathlib.Core.Option.{none, some}
 use Prim.Native.Nat.{ℕ, suc, _+_, _≤_, _<_}
 use native.Mathlib.Numerals.{add-one}
 use native.Mathlib.Decide.{ℕ-discrete}
 use native.Mathlib.Omega.{arith}
-use lib.Dec.{T, eqb, ltb, ltb→lt}
+use lib.Dec.{T, eqb, ltb→lt}
 use lib.ListN.{length, set, length-set}
 use lib.Seq.{getD-set-same, getD-set-other}
 use borrow.Author.Tests.{lt-ltb, ne-eqb}
-use Rattle.sets.specs.Lists.{count, table, upto, some?}
+use Rattle.sets.specs.Lists.{some?}
 use Rattle.sets.specs.Set.{has, size, IsWithout, IsBelow}
 use Rattle.sets.proofs.TestLaws.{and-l, or-turn, or-assoc}
 use Rattle.sets.proofs.ListLaws.{table-suc}
@@ -28,7 +28,6 @@ use Rattle.shrink.proofs.BackLaws.{every-below}
 use Rattle.shrink.proofs.Alike.{table-agree}
 use Rattle.removing.specs.Words.{Entries, removal, goesOf, removed, Shrank}
 use Rattle.removing.specs.declared.Goes.{Goes}
-use Rattle.removing.specs.declared.Shrunk.{Shrunk}
 
 -- ---- one removal more
 

@@ -1,15 +1,14 @@
 -- Laws of putting back, the last first: who is behind, in the order of removal, is back, and who is before it is not. Assumes nothing.
 use mathlib.Core.Path.{_≡_, refl, sym, ap, ap₂, _∙_, subst}
-use mathlib.Core.Logic.{_≢_}
 use mathlib.Core.Bool.{Bool, true, false, not, _&&_, cond}
 use mathlib.Core.List.{List, [], _∷_, _++_, append-assoc, append-nil}
-use Prim.Native.Nat.{ℕ, zero, suc, _+_, _≤_, _<_, max}
+use Prim.Native.Nat.{ℕ, suc, _+_, _≤_, _<_, max}
 use native.Mathlib.Decide.{ℕ-discrete}
 use native.Mathlib.Omega.{arith}
 use borrow.Author.Tests.{eq-eqb, ne-eqb}
 use lib.Dec.{T, eqb, ltb→lt}
-use lib.ListN.{length, getD, set, length-set}
-use Rattle.sets.specs.Set.{has, IsWith}
+use lib.ListN.{length, set, length-set}
+use Rattle.sets.specs.Set.{IsWith}
 use Rattle.sets.proofs.TestLaws.{and-true}
 use Rattle.sets.proofs.ListLaws.{table-suc}
 use Rattle.clashes.specs.Matrix.{matrix}

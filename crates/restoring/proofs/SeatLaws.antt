@@ -8,12 +8,11 @@ use Prim.Native.Nat.{ℕ, zero, suc, _+_, _≤_, _<_}
 use native.Mathlib.Numerals.{add-one}
 use native.Mathlib.Decide.{ℕ-discrete, decLt}
 use native.Mathlib.Omega.{arith}
-use borrow.Author.Tests.{eq-eqb, ne-eqb}
+use borrow.Author.Tests.{ne-eqb}
 use lib.Dec.{T, eqb, ltb, eqb→eq, ltb→lt, lt→ltb, T-not, not-T}
 use lib.ListN.{length, getD, set, drop, replicate, length-set, length-append, length-drop, getD-replicate, List·getD-append}
 use lib.Seq.{drop-cons, set-at, getD-set-same, getD-set-other}
-use Rattle.sets.specs.Lists.{all}
-use Rattle.sets.specs.Set.{has, size, IsWith, IsWithout, IsLowest}
+use Rattle.sets.specs.Set.{has, IsWith, IsWithout, IsLowest}
 use Rattle.sets.proofs.TestLaws.{and-l, and-r, and-t, and-true, or-false, eqb-of, T→true, T→false, all-get, all-make}
 use Rattle.sets.proofs.MemberLaws.{lowest-is, lowest-none}
 use Rattle.sets.proofs.SetLaws.{has-none}
@@ -27,7 +26,6 @@ use Rattle.shrink.specs.Rules.{orElse}
 use Rattle.shrink.specs.Back.{Seating, admits, home}
 use Rattle.restoring.specs.Rows.{names}
 use Rattle.restoring.specs.Seats.{Sets, Clear, Spread}
-use Rattle.restoring.specs.declared.Seats.{Seats}
 use Rattle.removing.proofs.ShareLaws.{nobody}
 use Rattle.restoring.proofs.TurnLaws.{Turned, turned-start, turned-next, turn-place}
 

@@ -1,9 +1,8 @@
 -- Laws of going through a set's members, lowest first, with a count: places, and the shrunk list's rows. Assumes nothing.
 use mathlib.Core.Path.{_≡_, refl, sym, ap, ap₂, _∙_, subst}
-use mathlib.Core.Logic.{_≢_}
 use mathlib.Core.Bool.{Bool, true, false, not, _&&_, _||_}
-use mathlib.Core.List.{List, [], _∷_}
-use Prim.Native.Nat.{ℕ, zero, suc, _+_, _≤_, _<_}
+use mathlib.Core.List.{List, []}
+use Prim.Native.Nat.{ℕ, _+_, _<_}
 use native.Mathlib.Numerals.{add-one}
 use native.Mathlib.Decide.{ℕ-discrete, decLt}
 use native.Mathlib.Omega.{arith}
@@ -11,7 +10,7 @@ use borrow.Author.Tests.{lt-ltb, le-ltb, eq-eqb, ne-eqb}
 use lib.Dec.{T, eqb, ltb}
 use lib.ListN.{length, getD, set, drop, length-set}
 use lib.Seq.{drop-cons, getD-drop, getD-set-same, getD-set-other}
-use Rattle.sets.specs.Lists.{members, count}
+use Rattle.sets.specs.Lists.{members}
 use Rattle.sets.specs.Set.{has, size, IsWith, IsWithout, IsMeet, IsLowest}
 use Rattle.sets.proofs.TestLaws.{and-l, and-r, and-true, or-false, T→true}
 use Rattle.sets.proofs.MemberLaws.{members-count, members-noDup, In-members, members-In}

@@ -1,21 +1,19 @@
 -- Who is absent does not count: where two seatings agree on who is present, so they do when the others are put back. Assumes nothing.
 use mathlib.Core.Path.{_≡_, refl, sym, ap, ap₂, _∙_}
-use mathlib.Core.Logic.{_≢_}
 use mathlib.Core.Bool.{Bool, true, false, not, _&&_}
 use mathlib.Core.List.{List, [], _∷_}
-use mathlib.Core.Option.{Option}
 use Prim.Native.Nat.{ℕ, zero, suc, _≤_, _<_, max}
 use native.Mathlib.Decide.{ℕ-discrete}
 use native.Mathlib.Omega.{arith}
 use lib.Dec.{T, eqb}
 use lib.ListN.{length}
 use lib.Seq.{getD-set-same, getD-set-other}
-use Rattle.sets.specs.Lists.{all, table, first, members, lowest}
+use Rattle.sets.specs.Lists.{all, table, first, lowest}
 use Rattle.sets.proofs.MemberLaws.{members-agree}
 use Rattle.clashes.specs.Labels.{number}
 use Rattle.clashes.specs.Matrix.{Valid}
 use Rattle.clashes.specs.Divisions.{at, division}
-use Rattle.shrink.specs.Rules.{Removal, covered, few, entry, without, orElse, left, everyone}
+use Rattle.shrink.specs.Rules.{Removal, covered, few, entry, without, orElse, left}
 use Rattle.shrink.specs.Back.{Seating, into, admits, home, put, back}
 use Rattle.shrink.specs.Steps.{Allowed, Steps, Fits}
 use Rattle.shrink.proofs.RuleLaws.{without-in}

@@ -8,9 +8,9 @@ use native.Mathlib.Omega.{arith}
 use types.Run.{OneOf, miss}
 use denote.Enum.Declared.{tagOf}
 use lib.Dec.{T, eqb, ltb, ltb→lt, lt→ltb}
-use lib.ListN.{length, take, drop, getD}
+use lib.ListN.{length, take, drop}
 use lib.Seq.{take-at, drop-at, getD-take, length-take-le}
-use Rattle.sets.specs.Lists.{members, some?}
+use Rattle.sets.specs.Lists.{members}
 use Rattle.sets.specs.Set.{has, size}
 use Rattle.sets.proofs.MemberLaws.{members-count, members-agree, members-narrow}
 use Rattle.clashes.specs.Labels.{place}
@@ -34,8 +34,8 @@ use Rattle.walk.proofs.Answer.{the-type}
 use Rattle.walk.proofs.Answers.{mycielskian-bound}
 use Rattle.shrink.specs.Rules.{Removal, left, everyone, gone, among}
 use Rattle.shrink.specs.Rules as rules
-use Rattle.shrink.specs.Back.{Seating, back, spread}
-use Rattle.shrink.specs.Shrunk.{isFew, fewest, shrunkSize, shrunkClash, whole, shrunkOf, shrunkWalk}
+use Rattle.shrink.specs.Back.{back, spread}
+use Rattle.shrink.specs.Shrunk.{fewest, shrunkSize, shrunkClash, whole, shrunkOf, shrunkWalk}
 use Rattle.shrink.specs.Steps.{Steps, Fits}
 use Rattle.shrink.proofs.RuleLaws.{left-in, removals-steps}
 use Rattle.shrink.proofs.BackLaws.{back-fits, spread-at, spread-fits}

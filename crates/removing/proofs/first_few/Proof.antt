@@ -1,18 +1,16 @@
 -- `removing::first_few` meets its contract: nobody who was looked at has few clashes, or one was found. Assumes nothing.
-use mathlib.Core.Path.{_≡_, refl, sym, ap, _∙_}
+use mathlib.Core.Path.{refl, ap}
 use mathlib.Core.Bool.{Bool}
 use mathlib.Core.List.{List}
 use mathlib.Core.Option.{Option, none, some}
-use Prim.Native.Nat.{ℕ, _≤_, _<_}
+use Prim.Native.Nat.{ℕ}
 use native.Mathlib.Omega.{arith}
 use borrow.Author.Needs.{needs}
-use lib.Dec.{T}
 use lib.ListN.{length}
 use Rattle.sets.specs.Set.{has, size}
 use Rattle.clashes.specs.Matrix.{matrix}
 use Rattle.graphs.proofs.LoopLaws.{left-falls}
-use Rattle.shrink.specs.Rules.{Removal, few, hasFew, choose}
-use Rattle.removing.specs.declared.Goes.{Goes}
+use Rattle.shrink.specs.Rules.{Removal, hasFew, choose}
 use Rattle.removing.proofs.ShareLaws.{size-nobody}
 use Rattle.removing.proofs.LookLaws.{Looked, looked-start, looked-next, looked-found, looked-end, few-some, few-none, few-here, removal-few}
 use Rattle.removing.proofs.first_few.Statement.{statement}

@@ -1,14 +1,13 @@
 -- `removing::shrink` meets its contract: who has gone, and then who is still to go, are all who go. Assumes nothing.
-use mathlib.Core.Path.{_≡_, refl, sym, subst}
+use mathlib.Core.Path.{refl, sym, subst}
 use mathlib.Core.Bool.{Bool}
-use Prim.Native.Nat.{ℕ, _≤_, _<_, _+_}
+use Prim.Native.Nat.{_≤_, _<_, _+_}
 use native.Mathlib.Omega.{arith}
 use borrow.Author.Needs.{needs}
 use lib.Dec.{T, ltb→lt}
 use lib.ListN.{length, set}
-use Rattle.sets.specs.Set.{has, size}
+use Rattle.sets.specs.Set.{size}
 use Rattle.clashes.proofs.MatrixLaws.{sound-valid}
-use Rattle.removing.specs.Words.{Listed}
 use Rattle.removing.proofs.ShrinkLaws.{Going, going-start, going-next, going-less, going-end, who-below, other-below, room, without-entries}
 use Rattle.removing.proofs.shrink.Statement.{statement}
 use Rattle.removing.proofs.shrink.Tie as tie

@@ -1,17 +1,13 @@
 -- `restoring::number` meets its contract: the bytes below i are the groups of the entries below i, and next is how many they are. Assumes nothing.
-use mathlib.Core.Path.{_≡_, refl, sym, ap, _∙_, subst₂}
+use mathlib.Core.Path.{_≡_, sym, ap, _∙_, subst₂}
 use mathlib.Core.Logic.{⊎-elim}
 use mathlib.Core.List.{List, _++_}
 use Prim.Native.Nat.{ℕ, _+_, _≤_, _<_, _-_}
 use native.Mathlib.Omega.{arith}
 use native.Mathlib.Decide.{ℕ-discrete}
 use borrow.Author.Needs.{needs}
-use lib.Dec.{T, ltb, eqb, lt→ltb}
-use lib.ListN.{length, getD, drop, length-append, length-drop}
-use Rattle.sets.specs.Set.{has}
-use Rattle.sets.proofs.TestLaws.{and-t, eqb-of}
+use lib.ListN.{length, getD, drop}
 use Rattle.clashes.specs.Divisions.{at, division}
-use Rattle.clashes.proofs.DivisionLaws.{division-length}
 use Rattle.removing.proofs.ShareLaws.{nobody}
 use Rattle.restoring.proofs.SeatLaws.{Numbering, numbering-start, numbering-opens, numbering-joins, numbering-long, smallest, own-group}
 use Rattle.restoring.proofs.number.Statement.{statement}

@@ -1,5 +1,5 @@
 -- `restoring::places` meets its contract: who is not left has its place noted, and i are gone through. Assumes nothing.
-use mathlib.Core.Path.{_≡_, refl}
+use mathlib.Core.Path.{refl}
 use native.Mathlib.Omega.{arith}
 use borrow.Author.Needs.{needs}
 use Prim.Native.Nat.{_<_}

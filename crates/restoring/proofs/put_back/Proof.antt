@@ -1,11 +1,9 @@
 -- `restoring::put_back` meets its contract: all but the first gone - back are back. Assumes nothing.
-use mathlib.Core.Path.{_≡_, refl, sym, ap, _∙_, subst}
-use mathlib.Core.List.{List}
+use mathlib.Core.Path.{subst}
 use Prim.Native.Nat.{ℕ, suc, _+_, _-_, _≤_, _<_}
 use native.Mathlib.Omega.{arith}
 use borrow.Author.Needs.{needs}
 use lib.ListN.{length, getD}
-use Rattle.restoring.specs.declared.Seats.{Seats}
 use Rattle.restoring.proofs.ReturnLaws.{Returns, returns-start, returns-next, returns-end, who-is, other-below, seat-is}
 use Rattle.restoring.proofs.put_back.Statement.{statement}
 use Rattle.restoring.proofs.put_back.Tie as tie

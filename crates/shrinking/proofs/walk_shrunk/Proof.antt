@@ -1,13 +1,12 @@
 -- `shrinking::walk_shrunk` meets its contract: what the walk promises of the shrunk rows is made what is promised of the full ones. Assumes nothing.
-use mathlib.Core.Path.{_≡_, refl, sym, ap, _∙_, subst}
+use mathlib.Core.Path.{sym, ap, _∙_, subst}
 use mathlib.Core.Bool.{cond}
 use Prim.Native.Nat.{ℕ, _≤_, max}
 use native.Mathlib.Omega.{arith}
 use borrow.Author.Needs.{needs}
-use lib.ListN.{length, take, replicate}
+use lib.ListN.{take, replicate}
 use lib.Seq.{length-take-le}
 use Rattle.sets.specs.Set.{size}
-use Rattle.clashes.specs.Matrix.{Sound}
 use Rattle.bounds.specs.Names.{mycielskian}
 use Rattle.bounds.specs.Lent.{ofList}
 use Rattle.graphs.proofs.LoopLaws.{size-le}
@@ -17,7 +16,7 @@ use Rattle.walk.specs.declared.Answer.{Answer}
 use Rattle.walk.specs.declared.Answer.the-variants.{Accepted}
 use Rattle.shrink.specs.Shrunk.{shrunkWalk}
 use Rattle.removing.specs.Words.{Shrank}
-use Rattle.shrinking.proofs.CallLaws.{present-entries, small-few, shrunk-refused, colours-few, returning, standing, shrunk-accepts}
+use Rattle.shrinking.proofs.CallLaws.{present-entries, shrunk-refused, colours-few, returning, standing, shrunk-accepts}
 use Rattle.shrinking.proofs.walk_shrunk.Statement.{statement}
 use Rattle.shrinking.proofs.walk_shrunk.Tie as tie
 
