@@ -33,7 +33,7 @@ extern "C" {
 #endif
 
 /* tools/bindings writes from here on, from bindings/interface.txt */
-#define SLOTSHEET_VERSION "5.0.0"
+#define SLOTSHEET_VERSION "5.1.0"
 
 #define SLOTSHEET_ENTRIES 64          /* the most entries of a list */
 #define SLOTSHEET_BYTES 65536         /* the most bytes of a text that is read */
@@ -166,6 +166,13 @@ struct slotsheet_walk slotsheet_plain(const uint64_t *rows, size_t rows_length, 
    walk's. */
 struct slotsheet_walk slotsheet_fewest_by_placing(const uint64_t *rows, size_t rows_length, uint8_t *colours, size_t colours_length,
                                                   uint64_t budget);
+
+/* The same k by the walk over a shrunk list, for long lists of which many entries have few clashes. Before the walk an entry goes whose clashes are all
+   clashes of another, or which has fewer clashes than the list's Mycielskian bound, until there is none; after it those that went are put back into
+   groups. 1 to 4, 5, 6: `nodes` and the budget are of the walk over what is left, and the colours may be others than those of slotsheet_fewest. The
+   clique is the whole list's. */
+struct slotsheet_walk slotsheet_fewest_shrunk(const uint64_t *rows, size_t rows_length, uint8_t *colours, size_t colours_length,
+                                              uint64_t budget);
 
 /* Reads a clash text, whose lines are "p edge N M", "e U V" and comments, all those that begin with c: 18, then the first faulty line by 10, 21, 22
    or 23, then 11, 12, 13, 17, 14, 15, 20, then at the end 11, 16. Accepted, writes the first n rows; rows from n on stay. */

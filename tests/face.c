@@ -94,6 +94,7 @@ static void nulls(void) {
     CHECK(slotsheet_fewest(NULL, 0, NULL, 0, 1).nodes == 1 && slotsheet_fewest(NULL, 0, NULL, 0, 1).clique == 0);
     CHECK(slotsheet_plain(NULL, 0, odd, 0, 1).leaves == 1);
     CHECK(slotsheet_fewest_by_placing(NULL, 0, NULL, 0, 1).nodes == 1 && slotsheet_fewest_by_placing(NULL, 0, odd, 0, 1).clique == 0);
+    CHECK(slotsheet_fewest_shrunk(NULL, 0, NULL, 0, 1).nodes == 1 && slotsheet_fewest_shrunk(NULL, 0, odd, 0, 1).clique == 0);
     CHECK(slotsheet_read_list(NULL, 0, NULL, 0).refusal == SLOTSHEET_HEADLESS);
     CHECK(slotsheet_read_list_repeats(NULL, 0, NULL, 0).refusal == SLOTSHEET_HEADLESS);
     CHECK(slotsheet_write_list(NULL, 0, out, sizeof out).length == 11);
@@ -120,30 +121,43 @@ static void cliques(void) {
     CHECK(walk.refusal == SLOTSHEET_ACCEPTED && walk.k == 3 && walk.clique == 11);
     CHECK(slotsheet_plain(four, 4, colours, 4, 99).clique == 11);
     CHECK(slotsheet_fewest_by_placing(four, 4, colours, 4, 99).clique == 11);
+    CHECK(slotsheet_fewest_shrunk(four, 4, colours, 4, 9).clique == 11);
     CHECK(slotsheet_fewest(four, 4, colours, 4, 0).clique == 0);
     CHECK(slotsheet_fewest(four, 4, colours, 3, 9).clique == 0);
     CHECK(slotsheet_clique_bound(four, 3).refusal == SLOTSHEET_STRAY && slotsheet_clique_bound(four, 3).members == 0);
 }
 
-/* The second engine's own refusals, and its own count of nodes: each in the order 1 to 5, then 6. The walk needs one node here. */
-static void placings(void) {
+/* A search that is no walk has the walk's refusals, each in the order 1 to 5, then 6, and its own count of nodes: so many for two entries that clash. */
+typedef struct slotsheet_walk search(const uint64_t *, size_t, uint8_t *, size_t, uint64_t);
+static void searched(search *by, uint64_t nodes) {
     uint64_t two[2] = {2, 1};
     uint8_t lent[3] = {7, 7, 7};
-    CHECK(slotsheet_fewest_by_placing(rows, 65, lent, 0, 0).refusal == SLOTSHEET_MANY);
+    CHECK(by(rows, 65, lent, 0, 0).refusal == SLOTSHEET_MANY);
     two[1] = 5;
-    CHECK(slotsheet_fewest_by_placing(two, 2, lent, 0, 0).refusal == SLOTSHEET_STRAY && slotsheet_fewest_by_placing(two, 2, lent, 0, 0).row == 1);
+    CHECK(by(two, 2, lent, 0, 0).refusal == SLOTSHEET_STRAY && by(two, 2, lent, 0, 0).row == 1);
     two[1] = 3;
-    CHECK(slotsheet_fewest_by_placing(two, 2, lent, 0, 0).refusal == SLOTSHEET_SELF && slotsheet_fewest_by_placing(two, 2, lent, 0, 0).row == 1);
+    CHECK(by(two, 2, lent, 0, 0).refusal == SLOTSHEET_SELF && by(two, 2, lent, 0, 0).row == 1);
     two[1] = 0;
-    CHECK(slotsheet_fewest_by_placing(two, 2, lent, 0, 0).refusal == SLOTSHEET_ONE_SIDED);
+    CHECK(by(two, 2, lent, 0, 0).refusal == SLOTSHEET_ONE_SIDED);
     two[1] = 1;
-    CHECK(slotsheet_fewest_by_placing(two, 2, lent, 1, 0).refusal == SLOTSHEET_SHORT);
-    struct slotsheet_walk said = slotsheet_fewest_by_placing(two, 2, lent, 2, 2);
-    CHECK(said.refusal == SLOTSHEET_BUDGET && said.nodes == 2 && said.k == 0 && said.clique == 0);
+    CHECK(by(two, 2, lent, 1, 0).refusal == SLOTSHEET_SHORT);
+    struct slotsheet_walk said = by(two, 2, lent, 2, nodes - 1);
+    CHECK(said.refusal == SLOTSHEET_BUDGET && said.nodes == nodes - 1 && said.k == 0 && said.clique == 0);
     CHECK(lent[0] == 7 && lent[1] == 7 && lent[2] == 7);
-    said = slotsheet_fewest_by_placing(two, 2, lent, 3, 3);
-    CHECK(said.refusal == SLOTSHEET_ACCEPTED && said.k == 2 && said.nodes == 3 && said.leaves == 0 && said.clique == 3);
+    said = by(two, 2, lent, 3, nodes);
+    CHECK(said.refusal == SLOTSHEET_ACCEPTED && said.k == 2 && said.nodes == nodes && said.leaves == 0 && said.clique == 3);
     CHECK(lent[0] == 0 && lent[1] == 1 && lent[2] == 7);
+}
+
+/* What is put back may stand in other groups than by the walk: a triangle of entries 2, 3 and 4, and a pair of 1 and 5. */
+static void shrunk(void) {
+    const uint64_t five[5] = {16, 12, 10, 6, 1};
+    uint8_t lent[6] = {7, 7, 7, 7, 7, 7}, walked[6] = {7, 7, 7, 7, 7, 7};
+    struct slotsheet_walk said = slotsheet_fewest_shrunk(five, 5, lent, 6, 1);
+    CHECK(said.refusal == SLOTSHEET_ACCEPTED && said.k == 3 && said.nodes == 1 && said.leaves == 0 && said.clique == 14);
+    CHECK(memcmp(lent, "\0\1\2\0\1\7", 6) == 0);
+    CHECK(slotsheet_fewest(five, 5, walked, 6, 99).k == 3 && memcmp(lent, walked, 6) != 0);
+    CHECK(slotsheet_fewest_shrunk(five, 5, lent, 6, 0).refusal == SLOTSHEET_BUDGET);
 }
 
 /* A sentence in every buffer that is too small for it, and in one that is large enough: nothing past the buffer, and a 0 at its end. */
@@ -176,6 +190,8 @@ static void *deepest(void *unused) {
     CHECK(slotsheet_fewest(ring, 64, own, 64, SLOTSHEET_NODES).clique == 3);
     CHECK(slotsheet_fewest_by_placing(none, 64, own, 64, SLOTSHEET_NODES).k == 1);
     CHECK(slotsheet_fewest_by_placing(ring, 64, own, 64, SLOTSHEET_NODES).k == 2);
+    CHECK(slotsheet_fewest_shrunk(none, 64, own, 64, SLOTSHEET_NODES).k == 1);
+    CHECK(slotsheet_fewest_shrunk(ring, 64, own, 64, SLOTSHEET_NODES).k == 2);
     struct slotsheet_writing list = slotsheet_write_list(ring, 64, text, sizeof text);
     struct slotsheet_writing written = slotsheet_write_sheet(own, 64, sheet, sizeof sheet);
     CHECK(slotsheet_read_list(text, list.length, none, 64).entries == 64);
@@ -291,7 +307,9 @@ int main(int count, char **words) {
     numbers();
     nulls();
     cliques();
-    placings();
+    searched(slotsheet_fewest_by_placing, 3);
+    searched(slotsheet_fewest_shrunk, 1);
+    shrunk();
     buffers();
     small_stack();
     CHECK(strcmp(slotsheet_version(), SLOTSHEET_VERSION) == 0);

@@ -4,6 +4,7 @@
 //! - `tuned`: the bounded walk made as fast as we could, with the same answers;
 //! - `reading`: a clash text in one pass;
 //! - `placed`: the second program's search by placing, in a walk's shape;
+//! - `shrunk`: the second program's shrinking, around the walk in document 01's words;
 //! - `lists`: lists to walk, random ones and those of a folder.
 
 pub mod described;
@@ -12,7 +13,7 @@ pub mod reading;
 pub mod sets;
 pub mod tuned;
 
-use second::{clique, placing, Refusal, Refused};
+use second::{clique, placing, shrink, Refusal, Refused};
 use sets::{below, bit, Members};
 
 /// What an accepted walk returns.
@@ -61,4 +62,15 @@ pub fn placed(rows: &[u64], colours: &mut [u8], budget: u64) -> Result<Walked, R
     let found = placing::fewest(rows, colours.len(), budget)?;
     colours[..rows.len()].copy_from_slice(&found.colours);
     Ok(Walked { k: found.k as u64, nodes: found.nodes, complete: 0, clique: clique::set(rows) })
+}
+
+/// The second program's shrinking and putting back around the walk in document 01's words, of which the count is; L and the clique are the full list's.
+pub fn shrunk(rows: &[u64], colours: &mut [u8], budget: u64) -> Result<Walked, Refused> {
+    admit(rows, colours)?;
+    let (clique, bound) = described::bounds(rows)?;
+    let left = shrink::shrink(rows, bound as usize);
+    let mut division = vec![0; left.left.len()];
+    let walked = described::fewest(&left.rows(rows), &mut division, budget)?;
+    colours[..rows.len()].copy_from_slice(&left.put_back(rows, &division));
+    Ok(Walked { k: left.answer(bound as usize, walked.k as usize) as u64, clique, ..walked })
 }

@@ -19,7 +19,7 @@ use std::path::{Path, PathBuf};
 use std::process::ExitCode;
 
 use bench::lists::load;
-use bench::{described, placed, reading, tuned, Walk};
+use bench::{described, placed, reading, shrunk, tuned, Walk};
 use clock::seconds;
 use second::{colouring, list, sheet, Refused};
 
@@ -36,6 +36,13 @@ const PLACINGS: &[(&str, Walk)] = &[
     ("second", placed),
     #[cfg(feature = "proved")]
     ("placing", proved::fewest_by_placing),
+];
+
+/// The walks over a shrunk list, which have counts of their own: the second program's shrinking around the plain walk, and the proved one.
+const SHRUNK: &[(&str, Walk)] = &[
+    ("second", shrunk),
+    #[cfg(feature = "proved")]
+    ("shrunk", proved::fewest_shrunk),
 ];
 
 type Bounds = fn(&[u64]) -> Result<(u64, u32), Refused>;
@@ -192,24 +199,26 @@ fn walks(tests: &Path, word: &str) -> bool {
     true
 }
 
-/// Nodes per second of the searches by placing, and of the last of the walks beside them, all in turns. False where answers differ.
-fn placings(tests: &Path, word: &str) -> bool {
-    println!("\nSearches by placing: thousand nodes per second of processor time, budget {BUDGET}; a walk beside them, by its own nodes; and milliseconds");
+/// Nodes per second of searches that have counts of their own, and of the last of the walks beside them, all in turns. False where answers differ.
+fn beside(tests: &Path, word: &str, title: &str, searches: &[(&'static str, Walk)]) -> bool {
+    println!(
+        "\n{title}: thousand nodes per second of processor time, budget {BUDGET}; a walk beside them, by its own nodes; and milliseconds"
+    );
     let walk = &WALKS[WALKS.len() - 1..];
-    let all = [PLACINGS, walk].concat();
+    let all = [searches, walk].concat();
     let mut head: Vec<String> = ["list", "k", "nodes", "walk's k", "its nodes"].map(String::from).to_vec();
     head.extend(all.iter().map(|(name, _)| name.to_string()));
     head.extend(all.iter().map(|(name, _)| format!("{name} ms")));
     row(&head);
     for name in LISTS.iter().filter(|name| name.contains(word)) {
         let rows = named(tests, name);
-        let (Some((k, nodes)), Some((walk_k, walk_nodes))) = (answered(PLACINGS, &rows), answered(walk, &rows)) else {
-            println!("{name}: the searches by placing differ");
+        let (Some((k, nodes)), Some((walk_k, walk_nodes))) = (answered(searches, &rows), answered(walk, &rows)) else {
+            println!("{name}: the answers differ");
             return false;
         };
         let taken = walked(&all, &rows);
         let mut cells = vec![name.to_string(), k, nodes.to_string(), walk_k, walk_nodes.to_string()];
-        let entered = |i: usize| if i < PLACINGS.len() { nodes } else { walk_nodes };
+        let entered = |i: usize| if i < searches.len() { nodes } else { walk_nodes };
         cells.extend(taken.iter().enumerate().map(|(i, taken)| format!("{:.0}", entered(i) as f64 / taken / 1e3)));
         cells.extend(taken.iter().map(|taken| format!("{:.3}", taken * 1e3)));
         row(&cells);
@@ -348,7 +357,7 @@ fn texts(tests: &Path) -> bool {
 /// One walk of one list: its nodes, or nothing where there is no such walk.
 fn once(tests: &Path, name: &str, walk: &str, budget: &str) -> ExitCode {
     let rows = named(tests, name);
-    let mut known = WALKS.iter().chain(PLACINGS);
+    let mut known = WALKS.iter().chain(PLACINGS).chain(SHRUNK);
     let (Some((_, walk)), Ok(budget)) = (known.find(|(known, _)| *known == walk), budget.parse()) else {
         eprintln!("no walk '{walk}', or no budget '{budget}'");
         return ExitCode::FAILURE;
@@ -376,7 +385,8 @@ fn main() -> ExitCode {
             return ExitCode::FAILURE;
         }
     };
-    if walks(&tests, word) && placings(&tests, word) && choices(&tests, word) && bounds(&tests, word) && texts(&tests) {
+    let searches = || beside(&tests, word, "Searches by placing", PLACINGS) && beside(&tests, word, "Walks over a shrunk list", SHRUNK);
+    if walks(&tests, word) && searches() && choices(&tests, word) && bounds(&tests, word) && texts(&tests) {
         ExitCode::SUCCESS
     } else {
         ExitCode::FAILURE

@@ -22,6 +22,10 @@ pub fn fewest_by_placing(rows: &[u64], colours: &mut [u8], budget: u64) -> Resul
     answered(slotsheet::fewest_by_placing(rows, colours, budget))
 }
 
+pub fn fewest_shrunk(rows: &[u64], colours: &mut [u8], budget: u64) -> Result<Walked, Refused> {
+    answered(slotsheet::fewest_shrunk(rows, colours, budget))
+}
+
 pub fn bounds(rows: &[u64]) -> Result<(u64, u32), Refused> {
     let clique = slotsheet::clique_bound(rows).map_err(refused)?;
     let mycielskian = slotsheet::mycielskian_bound(rows).map_err(refused)?;

@@ -18,6 +18,7 @@ struct slotsheet_bound slotsheet_proved_mycielskian_bound(const uint64_t *, size
 struct slotsheet_walk slotsheet_proved_fewest(const uint64_t *, size_t, uint8_t *, size_t, uint64_t);
 struct slotsheet_walk slotsheet_proved_plain(const uint64_t *, size_t, uint8_t *, size_t, uint64_t);
 struct slotsheet_walk slotsheet_proved_fewest_by_placing(const uint64_t *, size_t, uint8_t *, size_t, uint64_t);
+struct slotsheet_walk slotsheet_proved_fewest_shrunk(const uint64_t *, size_t, uint8_t *, size_t, uint64_t);
 struct slotsheet_reading slotsheet_proved_read_list(const uint8_t *, size_t, uint64_t *, size_t);
 struct slotsheet_reading slotsheet_proved_read_list_repeats(const uint8_t *, size_t, uint64_t *, size_t);
 struct slotsheet_writing slotsheet_proved_write_list(const uint64_t *, size_t, uint8_t *, size_t);
@@ -52,6 +53,11 @@ struct slotsheet_walk slotsheet_plain(const uint64_t *rows, size_t rows_length, 
 struct slotsheet_walk slotsheet_fewest_by_placing(const uint64_t *rows, size_t rows_length, uint8_t *colours, size_t colours_length,
                                                   uint64_t budget) {
     return slotsheet_proved_fewest_by_placing(ROWS(rows), BYTES(colours), budget);
+}
+
+struct slotsheet_walk slotsheet_fewest_shrunk(const uint64_t *rows, size_t rows_length, uint8_t *colours, size_t colours_length,
+                                              uint64_t budget) {
+    return slotsheet_proved_fewest_shrunk(ROWS(rows), BYTES(colours), budget);
 }
 
 struct slotsheet_reading slotsheet_read_list(const uint8_t *text, size_t text_length, uint64_t *rows, size_t rows_length) {

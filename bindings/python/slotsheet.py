@@ -49,12 +49,12 @@ from pathlib import Path
 
 __all__ = [
     "VERSION", "ENTRIES", "BYTES", "SHEET_BYTES", "LIST_BYTES", "NODES", "STACK_BYTES", "Refused", "Walked", "Clique", "Checked", "version", "rows_of", "validity",
-    "clique_bound", "mycielskian_bound", "fewest", "plain", "fewest_by_placing", "read_list", "read_list_repeats", "write_list", "write_sheet", "check_sheet",
-    "check_sheet_repeats", "fault_line", "fault_line_repeats", "answer", "answer_repeats",
+    "clique_bound", "mycielskian_bound", "fewest", "plain", "fewest_by_placing", "fewest_shrunk", "read_list", "read_list_repeats", "write_list", "write_sheet",
+    "check_sheet", "check_sheet_repeats", "fault_line", "fault_line_repeats", "answer", "answer_repeats",
 ]
 
 # tools/bindings writes from here on, from bindings/interface.txt
-VERSION = "5.0.0"
+VERSION = "5.1.0"
 
 ENTRIES = 64  # the most entries of a list
 BYTES = 65_536  # the most bytes of a text that is read
@@ -188,6 +188,7 @@ _CALLS = {
     "fewest": (_Walk, _ROWS + _LENT + [c_uint64]),
     "plain": (_Walk, _ROWS + _LENT + [c_uint64]),
     "fewest_by_placing": (_Walk, _ROWS + _LENT + [c_uint64]),
+    "fewest_shrunk": (_Walk, _ROWS + _LENT + [c_uint64]),
     "read_list": (_Reading, _TEXT + _ROWS),
     "read_list_repeats": (_Reading, _TEXT + _ROWS),
     "write_list": (_Writing, _ROWS + _LENT),
@@ -325,6 +326,17 @@ def fewest_by_placing(rows, budget=NODES):
     Walked(k=3, colours=[0, 1, 0, 1, 2], nodes=8, leaves=0, clique=[0, 1])
     """
     return _walk(_library.slotsheet_fewest_by_placing, rows, budget)
+
+
+def fewest_shrunk(rows, budget=NODES):
+    """The same k by the walk over a shrunk list, for long lists of which many entries have few clashes: an entry goes whose clashes are all clashes of another,
+    or which has fewer than the Mycielskian bound, and is put back after the walk. Nodes and budget are of the walk over what is left, and the colours may be
+    others than those of fewest.
+
+    >>> fewest_shrunk(rows_of(5, [(0, 4), (1, 2), (1, 3), (2, 3)]))
+    Walked(k=3, colours=[0, 1, 2, 0, 1], nodes=1, leaves=0, clique=[1, 2, 3])
+    """
+    return _walk(_library.slotsheet_fewest_shrunk, rows, budget)
 
 
 def _read(call, text):

@@ -67,6 +67,7 @@ class Calls(unittest.TestCase):
         self.assertEqual(slotsheet.check_sheet(text, slotsheet.write_sheet(answer.colours)), (3, answer.colours))
         self.assertEqual(slotsheet.plain(rows), (3, [0, 1, 0, 1, 2], 21, 11, [0, 1]))
         self.assertEqual(slotsheet.fewest_by_placing(rows), (3, [0, 1, 0, 1, 2], 8, 0, [0, 1]))
+        self.assertEqual(slotsheet.fewest_shrunk(rows), (3, [0, 1, 2, 1, 2], 1, 0, [0, 1]))
         self.assertEqual((slotsheet.clique_bound(rows), slotsheet.mycielskian_bound(rows)), ((2, [0, 1]), 3))
         self.assertIsNone(slotsheet.validity(rows))
 

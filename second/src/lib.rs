@@ -5,6 +5,7 @@
 //! - `clique`: the clique that says why it can't be fewer, by document 01's rule;
 //! - `matrix`: what makes lent rows a list (1 to 4), and P by listing divisions;
 //! - `placing`: document 02's search that never merges, with its node count;
+//! - `shrink`: document 02's shrinking before a walk, and putting back;
 //! - `list`: reading and writing a clash text; `shape`: what its lines may be, and the column at which one goes bad;
 //! - `sheet`: writing a sheet, checking one against a list, and the preview's part.
 
@@ -17,6 +18,7 @@ pub mod placing;
 pub mod refusal;
 pub mod shape;
 pub mod sheet;
+pub mod shrink;
 
 pub use refusal::{Refusal, Refused};
 

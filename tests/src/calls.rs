@@ -54,6 +54,11 @@ pub fn fewest_by_placing(rows: &[u64], colours: &mut [u8], budget: u64) -> [u64;
     walk(unsafe { raw::slotsheet_fewest_by_placing(rows.as_ptr(), rows.len(), colours.as_mut_ptr(), colours.len(), budget) })
 }
 
+pub fn fewest_shrunk(rows: &[u64], colours: &mut [u8], budget: u64) -> [u64; 6] {
+    // SAFETY: as in `validity`.
+    walk(unsafe { raw::slotsheet_fewest_shrunk(rows.as_ptr(), rows.len(), colours.as_mut_ptr(), colours.len(), budget) })
+}
+
 fn read(said: raw::Reading) -> [usize; 4] {
     [said.refusal, said.line, said.column, said.entries]
 }

@@ -11,6 +11,8 @@ mod examples;
 #[cfg(test)]
 mod proved;
 #[cfg(test)]
+mod shrunk;
+#[cfg(test)]
 mod stored;
 #[cfg(test)]
 mod texts;

@@ -6,6 +6,7 @@
 //! - `NAME.col`: lists of this folder, made here;
 //! - `expected`: "NAME k nodes", for each list of the three folders that the walk ends within the budget; k is the second program's too;
 //! - `refused`: "NAME 6 nodes", for the others;
+//! - `shrunk`: "NAME k nodes", for each list whose walk over what shrinking leaves ends within the budget;
 //! - `repeats`: "NAME 20 line", for those that list an edge twice, which only the reading of repeats allows;
 //! - `sheets/NAME`: what `slotsheet --repeats` prints for the list.
 
@@ -14,7 +15,7 @@ use std::io;
 use std::path::{Path, PathBuf};
 
 use bench::lists::load;
-use bench::{described, tuned};
+use bench::{described, shrunk, tuned};
 use comparisons::{lists, BUDGET};
 use second::{colouring, list, sheet};
 
@@ -41,7 +42,7 @@ fn main() -> io::Result<()> {
     paths.extend(lists_of(graphs)?);
     paths.extend(lists_of(examples)?);
     paths.sort_by_key(|path| path.file_stem().map(|name| name.to_owned()));
-    let (mut expected, mut refused, mut repeats) = (String::new(), String::new(), String::new());
+    let (mut expected, mut refused, mut after, mut repeats) = (String::new(), String::new(), String::new(), String::new());
     for path in paths {
         let name = path.file_stem().expect("a file").to_string_lossy().into_owned();
         let rows = load(&path)?;
@@ -53,6 +54,9 @@ fn main() -> io::Result<()> {
         let walked = described::fewest(&rows, &mut colours, BUDGET);
         assert_eq!(walked, tuned::fewest(&rows, &mut again, BUDGET), "{name}");
         assert_eq!(colours, again, "{name}");
+        if let Ok(walked) = shrunk(&rows, &mut again, BUDGET) {
+            after += &format!("{name} {} {}\n", walked.k, walked.nodes);
+        }
         let shown = match walked {
             Ok(walked) => {
                 assert_eq!(walked.k as usize, colouring::fewest(&rows).k, "{name}");
@@ -69,6 +73,7 @@ fn main() -> io::Result<()> {
         fs::write(folder.join("sheets").join(name), shown)?;
     }
     fs::write(folder.join("expected"), expected)?;
+    fs::write(folder.join("shrunk"), after)?;
     fs::write(folder.join("repeats"), repeats)?;
     fs::write(folder.join("refused"), refused)
 }

@@ -53,7 +53,7 @@ type Call = fn(&[u64], &mut [u8], u64) -> [u64; 6];
 
 /// One call for one list, buffer length and budget, against one that is written by hand: numbers, colours and all memory around them. The answer is
 /// returned.
-fn same(proved: Call, hand: Walk, rows: &[u64], room: usize, budget: u64) -> [u64; 6] {
+pub fn same(proved: Call, hand: Walk, rows: &[u64], room: usize, budget: u64) -> [u64; 6] {
     let (mut lent, mut again) = (Lent::new(room, FILL), Lent::new(room, FILL));
     let said = proved(rows, lent.part(), budget);
     assert_eq!(said, walk_numbers(hand(rows, again.part(), budget)), "{rows:?} {room} {budget}");
@@ -273,6 +273,7 @@ fn damaged_matrices() {
         let room = drawn.below(rows.len() as u64 + 3) as usize;
         compared(&rows, room, drawn.below(20));
         compared_by_placing(&rows, room, drawn.below(20));
+        same(calls::fewest_shrunk, bench::shrunk, &rows, room, drawn.below(20));
         let length = judged.map_or(0, |()| list::text_of(&rows).len());
         for room in [length, length.saturating_sub(1), length + 7] {
             let (mut lent, mut again) = (Lent::new(room, FILL), Lent::new(room, FILL));
@@ -406,8 +407,8 @@ fn safe_wrappers() {
         assert_eq!(wide(same(slotsheet::mycielskian_bound(&rows)), 0), mycielskian);
         let (mut out, mut again) = (vec![FILL; BYTES], vec![FILL; BYTES]);
         assert_eq!(same(slotsheet::write_list(&rows, &mut out)), calls::write_list(&rows, &mut again));
-        let wrapped = [slotsheet::fewest, slotsheet::plain, slotsheet::fewest_by_placing];
-        for walk in wrapped.iter().zip([calls::fewest, calls::plain, calls::fewest_by_placing]) {
+        let wrapped = [slotsheet::fewest, slotsheet::plain, slotsheet::fewest_by_placing, slotsheet::fewest_shrunk];
+        for walk in wrapped.iter().zip([calls::fewest, calls::plain, calls::fewest_by_placing, calls::fewest_shrunk]) {
             let said = match walk.0(&rows, &mut out[..60], 30) {
                 Ok(walked) => [0, 0, walked.k as u64, walked.nodes, walked.leaves, walked.clique],
                 Err(refused) if refused.why == slotsheet::Refusal::Budget => [6, 0, 0, refused.place, 0, 0],

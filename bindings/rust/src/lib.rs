@@ -188,6 +188,21 @@ pub fn fewest_by_placing(rows: &[u64], colours: &mut [u8], budget: u64) -> Resul
     walked(unsafe { raw::slotsheet_fewest_by_placing(rows.as_ptr(), rows.len(), colours.as_mut_ptr(), colours.len(), budget) })
 }
 
+/// The same k by the walk over a shrunk list, for long lists of which many entries have few clashes: before the walk an entry goes whose clashes are all
+/// clashes of another, or which has fewer than the list's [`mycielskian_bound`]; after it those that went are put back. 1 to 4, 5, 6; nodes and budget
+/// are of the walk over what is left, and the colours may be others than those of [`fewest`]. The clique is the whole list's.
+///
+/// ```
+/// let (rows, mut colours) = ([0b10000, 0b01100, 0b01010, 0b00110, 0b00001], [0; 5]);
+/// let walked = slotsheet::fewest_shrunk(&rows, &mut colours, 1_000_000).unwrap();
+/// assert_eq!((walked.k, walked.nodes, walked.clique), (3, 1, 0b01110));
+/// assert_eq!(colours, [0, 1, 2, 0, 1]);
+/// ```
+pub fn fewest_shrunk(rows: &[u64], colours: &mut [u8], budget: u64) -> Result<Walked, Refused> {
+    // SAFETY: as in `validity`.
+    walked(unsafe { raw::slotsheet_fewest_shrunk(rows.as_ptr(), rows.len(), colours.as_mut_ptr(), colours.len(), budget) })
+}
+
 fn read(said: raw::Reading) -> Result<usize, Refused> {
     told_at(said.refusal, said.line as u64, said.column, said.entries)
 }

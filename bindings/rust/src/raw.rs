@@ -62,6 +62,7 @@ extern "C" {
     pub fn slotsheet_fewest(rows: *const u64, rows_length: usize, colours: *mut u8, colours_length: usize, budget: u64) -> Walk;
     pub fn slotsheet_plain(rows: *const u64, rows_length: usize, colours: *mut u8, colours_length: usize, budget: u64) -> Walk;
     pub fn slotsheet_fewest_by_placing(rows: *const u64, rows_length: usize, colours: *mut u8, colours_length: usize, budget: u64) -> Walk;
+    pub fn slotsheet_fewest_shrunk(rows: *const u64, rows_length: usize, colours: *mut u8, colours_length: usize, budget: u64) -> Walk;
     pub fn slotsheet_read_list(text: *const u8, text_length: usize, rows: *mut u64, rows_length: usize) -> Reading;
     pub fn slotsheet_read_list_repeats(text: *const u8, text_length: usize, rows: *mut u64, rows_length: usize) -> Reading;
     pub fn slotsheet_write_list(rows: *const u64, rows_length: usize, out: *mut u8, out_length: usize) -> Writing;

@@ -3,7 +3,7 @@
 use crate::refusal::Beside;
 
 /// The version of the interface.
-pub const VERSION: &str = "5.0.0";
+pub const VERSION: &str = "5.1.0";
 /// The most entries of a list.
 pub const ENTRIES: usize = 64;
 /// The most bytes of a text that is read.

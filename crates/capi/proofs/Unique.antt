@@ -7,6 +7,7 @@ use Prim.Native.Nat.{ℕ}
 use Rattle.bounds.specs.Names.{cliqueSet, cliqueBound, mycielskian}
 use Rattle.bounds.specs.Lent.{noMembers}
 use Rattle.zykov.specs.Walk.{boundedWalk, plainWalk}
+use Rattle.shrink.specs.Shrunk.{shrunkWalk}
 use Rattle.sittings.specs.Numbers.{verdictNumbers, boundNumbers, walkNumbers, readNumbers, listNumbers, sheetNumbers, checkNumbers, partNumbers, printedNumbers}
 use Rattle.sittings.specs.declared.numbers.VerdictNumbers.{VerdictNumbers}
 use Rattle.sittings.specs.declared.numbers.BoundNumbers.{BoundNumbers}
@@ -53,6 +54,12 @@ pub fewest-by-placing-unique : (rows before : List ℕ) (budget : ℕ) (r q : Wa
     → PlacingCall rows before budget q other → (r ≡ q) × (after ≡ other)
 fewest-by-placing-unique rows before budget r q after other x y =
     call-unique walkNumbers (x .numbers) (y .numbers) (face.fewest-by-placing-unique rows before budget (x .answer) (y .answer) after other (x .promised) (y .promised))
+
+pub fewest-shrunk-unique : (rows before : List ℕ) (budget : ℕ) (r q : WalkNumbers) (after other : List ℕ)
+    → WalkCall (shrunkWalk mycielskian) rows before budget r after → WalkCall (shrunkWalk mycielskian) rows before budget q other
+    → (r ≡ q) × (after ≡ other)
+fewest-shrunk-unique rows before budget r q after other x y =
+    call-unique walkNumbers (x .numbers) (y .numbers) (face.fewest-shrunk-unique rows before budget (x .answer) (y .answer) after other (x .promised) (y .promised))
 
 pub plain-unique : (rows before : List ℕ) (budget : ℕ) (r q : WalkNumbers) (after other : List ℕ) → WalkCall plainWalk rows before budget r after
     → WalkCall plainWalk rows before budget q other → (r ≡ q) × (after ≡ other)

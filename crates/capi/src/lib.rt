@@ -11,6 +11,7 @@ ghost use mathlib.Core.Bool.{true, false};
 ghost use Rattle.bounds.specs.Names.{cliqueSet, cliqueBound, mycielskian};
 ghost use Rattle.bounds.specs.Lent.{noMembers};
 ghost use Rattle.zykov.specs.Walk.{boundedWalk, plainWalk};
+ghost use Rattle.shrink.specs.Shrunk.{shrunkWalk};
 ghost use Rattle.capi.specs.Calls.{ValidityCall, BoundCall, WalkCall, PlacingCall, ReadCall, ListCall, SheetCall, CheckCall, PartCall, AnswerCall};
 
 #[no_mangle]
@@ -62,6 +63,18 @@ pub extern "C" fn slotsheet_fewest_by_placing(
     ensures { λ r. ⌜ PlacingCall (now (rows .entry)) (now (colours .entry)) budget r (now (colours .exit)) ⌝ }
 {
     let a = sittings::fewest_by_placing(rows, colours, budget);
+    sittings::numbers::of_walk(a)
+}
+
+#[no_mangle]
+pub extern "C" fn slotsheet_fewest_shrunk(
+    rows: &[u64],
+    colours: &mut [u8],
+    budget: u64,
+) -> WalkNumbers
+    ensures { λ r. ⌜ WalkCall (shrunkWalk mycielskian) (now (rows .entry)) (now (colours .entry)) budget r (now (colours .exit)) ⌝ }
+{
+    let a = sittings::fewest_shrunk(rows, colours, budget);
     sittings::numbers::of_walk(a)
 }
 

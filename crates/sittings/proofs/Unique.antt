@@ -13,6 +13,7 @@ use Rattle.bounds.specs.Lent.{noMembers, Answers}
 use Rattle.bounds.specs.declared.Bound.{Bound}
 use Rattle.bounds.proofs.LentLaws.{answers-unique}
 use Rattle.zykov.specs.Walk.{boundedWalk, plainWalk}
+use Rattle.shrink.specs.Shrunk.{shrunkWalk}
 use Rattle.walk.specs.Promise.{Promised}
 use Rattle.walk.specs.declared.Answer.{Answer}
 use Rattle.walk.proofs.PromiseLaws.{promised-unique}
@@ -52,6 +53,11 @@ fewest-unique = promised-unique 64 (boundedWalk mycielskian)
 pub fewest-by-placing-unique : (rows before : List ℕ) (budget : ℕ) (a b : Answer) (after other : List ℕ) → PlacingPromise rows before budget a after
     → PlacingPromise rows before budget b other → (a ≡ b) × (after ≡ other)
 fewest-by-placing-unique = placing-unique 64
+
+pub fewest-shrunk-unique : (rows before : List ℕ) (budget : ℕ) (a b : Answer) (after other : List ℕ)
+    → Promised (shrunkWalk mycielskian) rows before budget a after → Promised (shrunkWalk mycielskian) rows before budget b other
+    → (a ≡ b) × (after ≡ other)
+fewest-shrunk-unique = promised-unique 64 (shrunkWalk mycielskian)
 
 pub plain-unique : (rows before : List ℕ) (budget : ℕ) (a b : Answer) (after other : List ℕ) → Promised plainWalk rows before budget a after
     → Promised plainWalk rows before budget b other → (a ≡ b) × (after ≡ other)

@@ -14,6 +14,7 @@ ghost use Rattle.bounds.specs.Names.{cliqueSet, cliqueBound, mycielskian};
 ghost use Rattle.bounds.specs.Lent.{noMembers, Answers};
 ghost use Rattle.zykov.specs.Walk.{boundedWalk, plainWalk};
 ghost use Rattle.walk.specs.Promise.{Promised};
+ghost use Rattle.shrink.specs.Shrunk.{shrunkWalk};
 ghost use Rattle.sittings.specs.Placing.{PlacingPromise};
 ghost use Rattle.lists.specs.Promise.{ReadPromise, WritePromise};
 ghost use Rattle.sheet_texts.specs.Promise.{WritePromise as SheetPromise};
@@ -72,6 +73,14 @@ pub fn fewest_by_placing(rows: &[u64], colours: &mut [u8], budget: u64) -> Answe
         placing::Answer::Short => Answer::Short,
         placing::Answer::Budget(nodes) => Answer::Budget(nodes),
     }
+}
+
+// The fewest sittings by the bounded walk over a shrunk list: entries go before it that can follow another or always find a group, and are put back after
+// it. k, the nodes of that walk, and the full list's clique.
+pub fn fewest_shrunk(rows: &[u64], colours: &mut [u8], budget: u64) -> Answer
+    ensures { λ r. ⌜ Promised (shrunkWalk mycielskian) (now (rows .entry)) (now (colours .entry)) budget r (now (colours .exit)) ⌝ }
+{
+    shrinking::fewest_shrunk(rows, colours, budget)
 }
 
 // Reads a clash text into the lent rows.

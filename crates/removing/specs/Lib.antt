@@ -1,0 +1,2 @@
+-- What the functions promise: who goes.
+pub mod Words
