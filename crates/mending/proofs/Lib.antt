@@ -1,0 +1,5 @@
+pub mod Steps
+pub mod HeldLaws
+pub mod Turns
+pub mod Placing
+pub mod Ordering
