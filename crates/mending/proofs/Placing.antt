@@ -1,5 +1,5 @@
 -- Entries put again: which they are, the first group that admits one, and what the groups are then.
-use Prim.Native.Nat.{ℕ, zero, suc, _+_, _≤_, _<_, suc-le-suc, zero-le}
+use Prim.Native.Nat.{ℕ, zero, suc, _+_, _-_, _^_, _≤_, _<_, suc-le-suc, zero-le}
 use mathlib.Core.Path.{_≡_, refl, sym, ap, subst, fun-ext, _∙_}
 use mathlib.Core.Logic.{_⊎_, inl, inr, _≢_, ⊎-elim}
 use mathlib.Core.List.{List, [], _∷_, _++_, map}
@@ -9,6 +9,7 @@ use native.Mathlib.Numerals.{add-one}
 use native.Mathlib.Decide.{decLt}
 use native.Mathlib.Omega.{arith}
 use borrow.Author.Tests.{lt-ltb}
+use lib.Bits.{bitAnd}
 use lib.Dec.{T, eqb, ltb, ltb→lt}
 use lib.ListN.{length, take, set, getD, length-set}
 use lib.Seq.{take-suc-set, take-set-lt, length-take-le, getD-take}
@@ -16,7 +17,7 @@ use Rattle.sets.specs.Lists.{bit, count, upto, members, over}
 use Rattle.sets.specs.Set.{has, size, IsWith, IsWithout, IsJoin, IsLess, IsBelow, IsLowest}
 use Rattle.sets.proofs.TestLaws.{and-l, and-r, or-cases, t-not, bit-one, bit-zero, T?}
 use Rattle.sets.proofs.MemberLaws.{count-upto, members-agree, members-none, members-narrow}
-use Rattle.sets.proofs.SetLaws.{has-none, size-without, members-cons}
+use Rattle.sets.proofs.SetLaws.{has-none, without-is, size-without, members-cons}
 use Rattle.sheets.specs.Sound.{Within}
 use Rattle.mends.specs.Mend.{none, with, clashes, admit, again}
 use Rattle.mending.specs.Held.{goingOf, FitsAt}
@@ -137,6 +138,9 @@ module _ (n left w : ℕ) (W : IsLowest 64 left w) (rest : ℕ) (R : IsWithout l
 
   pub rest-within : Within n left → Within n rest
   rest-within h j t = h j (and-l (has left j) (not (eqb w j)) (subst T (R j) t))
+
+pub some-left : (left w : ℕ) → IsLowest 64 left w → 1 ≤ size 64 left
+some-left left w W = omega (arith, size-without 64 left w (left - bitAnd left (2 ^ w)) (W .below) (W .member) (without-is left w))
 
 pub none-left : (s : ℕ) → s ≡ 0 → members (has s) 64 ≡ []
 none-left s z = members-none (has s) 64 (λ j h t. subst T (ap (λ (x : ℕ). has x j) z ∙ has-none j) t)

@@ -9,7 +9,7 @@ use refusals::Refusal;
 use sheets::SheetFault;
 ghost use mathlib.Core.Path.{_≡_};
 ghost use mathlib.Core.List.{map};
-ghost use Prim.Native.Nat.{_+_, _≤_, _<_};
+ghost use Prim.Native.Nat.{_+_, _*_, _≤_, _<_};
 ghost use lib.ListN.{length, take, getD};
 ghost use Rattle.sets.specs.Lists.{members, over};
 ghost use Rattle.sets.specs.Set.{has as member, size};
@@ -18,10 +18,10 @@ ghost use Rattle.sheets.specs.Sound.{Within};
 ghost use Rattle.lines.specs.Text.{linesOf};
 ghost use Rattle.lines.specs.Numeral.{Put};
 ghost use Rattle.mends.specs.Typed.{groupsOf, sizeOf, memberOf, stepOf, met as metOf};
-ghost use Rattle.mends.specs.Mend.{taken as takenOf, clashes, memberOf as goneMember, closed as closedOf, admit, placeOf};
-ghost use Rattle.mends.specs.Report.{droppedText};
+ghost use Rattle.mends.specs.Mend.{taken as takenOf, clashes, sees as seesOf, memberOf as goneMember, closed as closedOf, admit, placeOf};
+ghost use Rattle.mends.specs.Report.{droppedText, entryLine, putText};
 ghost use Rattle.mends.proofs.Groups.{Apart};
-ghost use Rattle.mending.specs.Held.{RowsOf, goingOf, Fits, cutOf, droppedMore, start, ThroughOf};
+ghost use Rattle.mending.specs.Held.{RowsOf, goingOf, Fits, cutOf, droppedMore, droppedOf, start, ThroughOf};
 ghost use Rattle.mending.specs.Places.{AgainOf, FirstOf, setsOf, Everyone, NumberedOf};
 
 // What is known on the way through a sheet, as sets: the entries seen, those lifted, those kept of this group, and what was kept of each group before it; and
@@ -393,4 +393,115 @@ fn in_order(g: Groups, n: usize) -> Numbered
         colours,
         groups: next,
     }
+}
+
+// ---- the report
+
+// How many bytes the lines of the entries that were put again take, each with its number and its group's.
+fn puts_len(again: u64, colours: &[u8]) -> usize
+    requires { ⌜ Within (length (now colours)) again × (length (now colours) ≤ 64) ⌝ }
+    ensures { λ r. ⌜ (r ≡ length (putText (now (colours .entry)) (members (member again) 64))) × (r ≤ 64 * 32) ⌝ }
+{
+    let mut bytes: usize = 0;
+    let mut left = again;
+    while left != 0 {
+        let e = sets::lowest(left);
+        bytes += lines::number_len(e + 1) + lines::number_len(wide(colours[e]) + 1) + 12;
+        left = sets::rest(left);
+    }
+    bytes
+}
+
+fn wide(b: u8) -> usize
+    ensures { λ r. ⌜ r ≡ b ⌝ }
+{
+    b as usize
+}
+
+// Puts the line of the entry e, which was put again into group g, at `at`: both count from 1 in it.
+fn put_entry(out: &mut [u8], at: usize, e: usize, g: usize) -> usize
+    requires { ⌜ (e < 64) × (g < 256) × (at + length (entryLine e g) ≤ length (now out)) ⌝ }
+    ensures { λ r. ⌜ Put (now (out .entry)) at (entryLine e g) (now (out .exit)) r ⌝ }
+{
+    let a = lines::put_word(out, at, b"put ");
+    let b = lines::put_number(out, a, e + 1);
+    lines::put_one(out, b, b" group ", g + 1)
+}
+
+// Puts these lines at `at`.
+fn put_puts(out: &mut [u8], at: usize, again: u64, colours: &[u8]) -> usize
+    requires { ⌜ Within (length (now colours)) again × (length (now colours) ≤ 64) × (at + length (putText (now colours) (members (member again) 64)) ≤ length (now out)) ⌝ }
+    ensures { λ r. ⌜ Put (now (out .entry)) at (putText (now (colours .entry)) (members (member again) 64)) (now (out .exit)) r ⌝ }
+{
+    let mut a = at;
+    let mut left = again;
+    while left != 0 {
+        let e = sets::lowest(left);
+        a = put_entry(out, a, e, wide(colours[e]));
+        left = sets::rest(left);
+    }
+    a
+}
+
+// The entries seen once the member u was gone through.
+fn sees(n: usize, seen: u64, u: usize) -> u64
+    requires { ⌜ n ≤ 64 ⌝ }
+    ensures { λ r. ⌜ member r ≡ seesOf n (member seen) u ⌝ }
+{
+    if taken(n, seen, u) {
+        return sets::with(seen, u - 1);
+    }
+    seen
+}
+
+// Puts the line of a member on this line of the sheet at `at`, if it is dropped.
+fn put_drop(out: &mut [u8], at: usize, n: usize, seen: u64, line: usize, u: usize) -> usize
+    requires { ⌜ (n ≤ 64) × (line < 1000000) × (at + length (droppedText (droppedMore n (member seen) line u)) ≤ length (now out)) ⌝ }
+    ensures { λ r. ⌜ Put (now (out .entry)) at (droppedText (droppedMore n (member seen) line u)) (now (out .exit)) r ⌝ }
+{
+    if taken(n, seen, u) {
+        return at;
+    }
+    lines::put_one(out, at, b"dropped ", line)
+}
+
+// Puts a line for each dropped line of the sheet at the start, up to the sheet's first fault.
+fn put_dropped(out: &mut [u8], n: usize, sheet: &[u8]) -> usize
+    requires { ⌜ (n ≤ 64) × (length (now sheet) ≤ 65536) × (length (droppedText (droppedOf n (now sheet))) ≤ length (now out)) ⌝ }
+    ensures { λ r. ⌜ Put (now (out .entry)) 0 (droppedText (droppedOf n (now (sheet .entry)))) (now (out .exit)) r ⌝ }
+{
+    let mut a: usize = 0;
+    let mut c = Counts {
+        begun: false,
+        left: 0,
+        need: 0,
+    };
+    let mut seen: u64 = 0;
+    let mut at: usize = 0;
+    let mut line: usize = 1;
+    while at < sheet.len() {
+        let e = lines::line_end(sheet, at);
+        if sheet.len() <= e {
+            return a;
+        }
+        match line_step(c, &sheet[at..e]) {
+            Step::Stop(_) => {
+                return a;
+            }
+            Step::Groups(d) => {
+                c = d;
+            }
+            Step::Size(d) => {
+                c = d;
+            }
+            Step::Member(d, u) => {
+                c = d;
+                a = put_drop(out, a, n, seen, line, u);
+                seen = sees(n, seen, u);
+            }
+        }
+        at = e + 1;
+        line += 1;
+    }
+    a
 }

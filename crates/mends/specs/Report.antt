@@ -3,6 +3,7 @@
 --   droppedIn n seen line us    : the lines that are dropped of the members us, of which the first stands on the given line
 --   droppedLines n seen line gs : the same of whole groups, of which the first has its size on the given line
 --   droppedText lines, putText c es : the lines of the report; c is the mended sheet's division
+--   entryLine e g               : the line of the entry e, put into group g
 --   reportText n clash gs       : the report
 --   outputText n clash gs       : the whole output
 --
@@ -44,13 +45,13 @@ abbrev pub droppedText : List ℕ → List ℕ
 droppedText [] = []
 droppedText (line ∷ lines) = oneLine droppedWord line ++ droppedText lines
 
--- "G counted from 1 in the mended sheet"; entries count from 1 in texts
-abbrev pub putLine : List ℕ → ℕ → List ℕ
-putLine c e = putWord ++ (numeral (e + 1) ++ oneLine groupWord (at c e + 1))
+-- the entry e, put into group g: "G counted from 1 in the mended sheet"; entries count from 1 in texts
+abbrev pub entryLine : ℕ → ℕ → List ℕ
+entryLine e g = putWord ++ (numeral (e + 1) ++ oneLine groupWord (g + 1))
 
 abbrev pub putText : List ℕ → List ℕ → List ℕ
 putText c [] = []
-putText c (e ∷ es) = putLine c e ++ putText c es
+putText c (e ∷ es) = entryLine e (at c e) ++ putText c es
 
 -- a sheet's first size stands on line 2
 abbrev pub reportText : ℕ → (ℕ → ℕ → Bool) → List (List ℕ) → List ℕ
