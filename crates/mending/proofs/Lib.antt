@@ -3,3 +3,4 @@ pub mod HeldLaws
 pub mod Turns
 pub mod Placing
 pub mod Ordering
+pub mod Reports

@@ -1,34 +1,38 @@
+-- `mending::put_drop` meets its contract: a line, or nothing. Assumes nothing.
+use mathlib.Core.Path.{_∙_, sym}
+use native.Mathlib.Omega.{arith}
+use Rattle.sets.specs.Set.{has}
+use Rattle.mending.proofs.Reports.{none-put, line-room, line-put}
 use borrow.Author.Needs.{needs}
 use Rattle.mending.proofs.put_drop.Statement.{statement}
 use Rattle.mending.proofs.put_drop.Tie as tie
-use Rattle.mending.proofs.put_drop.Reads as reads
-use Rattle.mending.proofs.put_drop.Lts as lts
-use Rattle.lines.proofs.put_one.Reads as put-one-reads
-use Rattle.mending.proofs.taken.Reads as taken-reads
 
--- src/lib.rt:462:8
 taken-requires : tie.Need-taken-requires
 taken-requires c κs = search needs
 
--- src/lib.rt:463:9
 returns : tie.Need-returns
-returns c = ?
+returns c = 
+    let a = c .before .before .before in
+    none-put (a .args .n) (has (a .args .seen)) (a .args .line) (a .args .u) (a .args .out .now) (a .args .at) (a .pre .2) (sym (c .before .taken .ensures) ∙ c .if1 .taken)
 
--- src/lib.rt:465:29
 slice-aggregate-put-one : tie.Need-slice-aggregate-put-one
 slice-aggregate-put-one c = search needs
 
--- src/lib.rt:465:5
 put-one-requires : tie.Need-put-one-requires
-put-one-requires c κs = ?
+put-one-requires c κs = 
+    let a = c .before .before .before .before .before in (
+      omega (arith, a .pre .1),
+      line-room (a .args .n) (has (a .args .seen)) (a .args .line) (a .args .u) (a .args .out .now) (a .args .at) (a .pre .2) (sym (c .before .before .before .taken .ensures) ∙ c .before .before .if1 .left),
+    )
 
--- src/lib.rt:458:1
 same-length : tie.Need-same-length
 same-length c = search needs
 
--- src/lib.rt:458:1
 returns-2 : tie.Need-returns-2
-returns-2 c = ?
+returns-2 c = 
+    let a = c .before .before .before .before .before .before .before .before in
+    line-put (a .args .n) (has (a .args .seen)) (a .args .line) (a .args .u) (a .args .out .now) (a .args .at) (a .pre .2) (sym (c .before .before .before .before .before .before .taken .ensures) ∙ c .before .before .before .before .before .if1 .left)
+    _ _ (c .before .before .put-one .ensures)
 
 pub put-drop-spec : {M : Type 1} → statement M
 put-drop-spec =
