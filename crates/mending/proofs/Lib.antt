@@ -4,3 +4,4 @@ pub mod Turns
 pub mod Placing
 pub mod Ordering
 pub mod Reports
+pub mod Dropped

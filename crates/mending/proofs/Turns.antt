@@ -104,13 +104,18 @@ module _ (n : ℕ) (rows s : List ℕ) (a k : ℕ) (c : Counts) (g : Gone) (p : 
   fails f h e = record { ran = sym (ap (run n (matrix rows) (goingOf g)) e) ∙ p .ran; held = tt }
 
   module _ (l : length s ≤ a) where
-    pub out-whole : met c ≡ true → (r : Gone) → (goingOf r ≡ closed n (goingOf g)) × FitsAt 64 n r × (r .bytes ≡ g .bytes) → ThroughOf n (matrix rows) s (record { shape = Whole; gone = r })
-    out-whole m r q = record {
+    pub out-whole : met c ≡ true → g .bytes ≤ 1048576 → (r : Gone) → (goingOf r ≡ closed n (goingOf g)) × FitsAt 64 n r × (r .bytes ≡ g .bytes)
+        → ThroughOf n (matrix rows) s (record { shape = Whole; gone = r })
+    out-whole m h r q = record {
       ran =
           ap whole (q .0)
           ∙ sym (ap (run n (matrix rows) (goingOf g)) (ends-typed s a k c l ∙ ap (λ (b : Bool). cond b (is [] []) (faulty Ends k)) m))
           ∙ p .ran;
-      held = (q .1, omega (arith, q .2, p .drops, ap (λ (ls : List ℕ). length (droppedText ls)) (ends-drops s a k c l n (has (g .seen)))));
+      held = (
+        q .1,
+        omega (arith, q .2, p .drops, ap (λ (ls : List ℕ). length (droppedText ls)) (ends-drops s a k c l n (has (g .seen)))),
+        omega (arith, q .2),
+      );
     }
 
     pub out-short : met c ≡ false → (h : Gone) → ThroughOf n (matrix rows) s (record { shape = Faulty Ends k; gone = h })

@@ -9,6 +9,7 @@
 --   droppedAt n t line c seen : the lines that are dropped of the lines t, of which the first is the given line; up to the first fault
 --   Ran, run n clash g t : what comes of a sheet of which t is still to come: all of it gone through, or its fault
 --   ranOf r           : what r says came of it
+--   HeldBy n s shape g : g fits, and knows how long the report on dropped lines is: at most 16 bytes for each byte of a sheet
 --   ThroughOf n clash s r : r is the sheet s, gone through
 --
 -- Sets are of `cap` entries (`RowsAt cap`, `FitsAt cap`); today's are of 64. Assumes nothing.
@@ -102,7 +103,7 @@ ranBy Whole g = whole (goingOf g)
 ranBy (Faulty f k) g = failed f k
 
 abbrev pub HeldBy : ℕ → List ℕ → Shape → Gone → Type 0
-HeldBy n s Whole g = Fits n g × (g .bytes ≡ length (droppedText (droppedOf n s)))
+HeldBy n s Whole g = Fits n g × (g .bytes ≡ length (droppedText (droppedOf n s))) × (g .bytes ≤ 1048576)
 HeldBy n s (Faulty f k) g = Unit {0}
 
 pub record ThroughOf (n : ℕ) (clash : ℕ → ℕ → Bool) (s : List ℕ) (r : Through) : Type 0 where

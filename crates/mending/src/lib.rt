@@ -8,21 +8,23 @@ use mends::Step;
 use refusals::Refusal;
 use sheets::SheetFault;
 ghost use mathlib.Core.Path.{_≡_};
-ghost use mathlib.Core.List.{map};
+ghost use mathlib.Core.List.{map, _++_};
 ghost use Prim.Native.Nat.{_+_, _*_, _≤_, _<_};
 ghost use lib.ListN.{length, take, getD};
 ghost use Rattle.sets.specs.Lists.{members, over};
 ghost use Rattle.sets.specs.Set.{has as member, size};
-ghost use Rattle.clashes.specs.Matrix.{matrix};
+ghost use Rattle.clashes.specs.Matrix.{matrix, Valid};
 ghost use Rattle.sheets.specs.Sound.{Within};
 ghost use Rattle.lines.specs.Text.{linesOf};
 ghost use Rattle.lines.specs.Numeral.{Put};
 ghost use Rattle.mends.specs.Typed.{groupsOf, sizeOf, memberOf, stepOf, met as metOf};
 ghost use Rattle.mends.specs.Mend.{taken as takenOf, clashes, sees as seesOf, memberOf as goneMember, closed as closedOf, admit, placeOf};
 ghost use Rattle.mends.specs.Report.{droppedText, entryLine, putText};
+ghost use Rattle.mends.specs.Promise.{refusedIn, numbersOf, mendSheet, MendPromise};
 ghost use Rattle.mends.proofs.Groups.{Apart};
 ghost use Rattle.mending.specs.Held.{RowsOf, goingOf, Fits, cutOf, droppedMore, droppedOf, start, ThroughOf};
 ghost use Rattle.mending.specs.Places.{AgainOf, FirstOf, setsOf, Everyone, NumberedOf};
+ghost use Rattle.mending.specs.Calls.{GoneAs, WholeAs, mendedOf, Answered};
 
 // What is known on the way through a sheet, as sets: the entries seen, those lifted, those kept of this group, and what was kept of each group before it; and
 // how many bytes the report has so far on dropped lines.
@@ -504,4 +506,123 @@ fn put_dropped(out: &mut [u8], n: usize, sheet: &[u8]) -> usize
         line += 1;
     }
     a
+}
+
+// ---- the call
+
+// Entries put again, and groups in order.
+fn settled(rows: &[u64], n: usize, g: Gone, again: u64) -> Numbered
+    requires { ⌜ RowsOf n (now rows) × Valid n (matrix (now rows)) × GoneAs n (matrix (now rows)) g × AgainOf n g again ⌝ }
+    ensures { λ r. ⌜ NumberedOf n (placeOf (mendedOf n (matrix (now (rows .entry))) (goingOf g))) r ⌝ }
+{
+    let sets = g.sets;
+    let many = g.many;
+    let groups = placed(rows, n, Groups { sets, many }, again);
+    in_order(groups, n)
+}
+
+// Puts the whole output at the start: the report, and the sheet.
+fn put_output(
+    out: &mut [u8],
+    n: usize,
+    sheet: &[u8],
+    again: u64,
+    colours: &[u8],
+    text: &[u8],
+) -> usize
+    requires { ⌜ (n ≤ 64) × (length (now sheet) ≤ 65536) × Within (length (now colours)) again × (length (now colours) ≤ 64) × (0 + length (droppedText (droppedOf n (now sheet)) ++ (putText (now colours) (members (member again) 64) ++ now text)) ≤ length (now out)) ⌝ }
+    ensures { λ r. ⌜ Put (now (out .entry)) 0 (droppedText (droppedOf n (now (sheet .entry))) ++ (putText (now (colours .entry)) (members (member again) 64) ++ now (text .entry))) (now (out .exit)) r ⌝ }
+{
+    let a = put_dropped(out, n, sheet);
+    let b = put_puts(out, a, again, colours);
+    lines::put_word(out, b, text)
+}
+
+// The output of a sheet that was gone through, where there is room for it.
+fn written(rows: &[u64], n: usize, sheet: &[u8], g: Gone, out: &mut [u8]) -> Mended
+    requires { ⌜ RowsOf n (now rows) × Valid n (matrix (now rows)) × (length (now sheet) ≤ 65536) × WholeAs n (matrix (now rows)) (now sheet) g ⌝ }
+    ensures { λ r. ⌜ Answered (mendSheet n (matrix (now (rows .entry))) (now (sheet .entry))) (now (out .entry)) r (now (out .exit)) ⌝ }
+{
+    let again = put_again(n, g);
+    let order = settled(rows, n, g, again);
+    let colours = order.colours;
+    let text = sheet_texts::compose(&colours[..n], order.groups);
+    let puts = puts_len(again, &colours[..n]);
+    let length = text.length;
+    if out.len() < g.bytes + puts + length {
+        return Mended::Full;
+    }
+    let bytes = text.bytes;
+    let whole = put_output(out, n, sheet, again, &colours[..n], &bytes[..length]);
+    Mended::Written(whole)
+}
+
+// Mends a sheet for the rows of a list of n entries.
+fn mend_lines(rows: &[u64], n: usize, sheet: &[u8], out: &mut [u8]) -> Mended
+    requires { ⌜ RowsOf n (now rows) × Valid n (matrix (now rows)) ⌝ }
+    ensures { λ r. ⌜ Answered (mendSheet n (matrix (now (rows .entry))) (now (sheet .entry))) (now (out .entry)) r (now (out .exit)) ⌝ }
+{
+    if LONGEST < sheet.len() {
+        return Mended::Refused(SheetFault::Long, 0);
+    }
+    let through = go_through(rows, n, sheet);
+    let shape = through.shape;
+    match shape {
+        Shape::Faulty(why, line) => Mended::Refused(why, line),
+        Shape::Whole => {
+            let g = through.gone;
+            written(rows, n, sheet, g, out)
+        }
+    }
+}
+
+// Mends a sheet against a clash text: the report and the mended sheet go to the lent bytes. In the list repeats are refused where `plain` is true, else
+// allowed.
+pub fn mend_sheet(list: &[u8], sheet: &[u8], out: &mut [u8], plain: bool) -> Mended
+    ensures { λ r. ⌜ MendPromise plain (now (list .entry)) (now (sheet .entry)) (now (out .entry)) r (now (out .exit)) ⌝ }
+{
+    let found = lists::gather(list, 64, plain);
+    let answer = found.answer;
+    match answer {
+        lists::Reading::Refused(why, line, column) => Mended::Unread(why, line, column),
+        lists::Reading::Read(n) => {
+            let rows = found.rows;
+            mend_lines(&rows, n, sheet, out)
+        }
+    }
+}
+
+// ---- numbers
+
+// The numbers of a refusal of this text, with its line and its column where the table names them.
+fn refused_in(text: usize, why: Refusal, line: usize, column: usize) -> Numbers
+    ensures { λ r. ⌜ r ≡ refusedIn text why line column ⌝ }
+{
+    Numbers {
+        number: refusals::number(why),
+        line: refusals::line(why, line),
+        column: refusals::column(why, column),
+        length: 0,
+        text,
+    }
+}
+
+// Document 01's numbers of an answer.
+pub fn numbers_of(answer: Mended) -> Numbers
+    ensures { λ r. ⌜ r ≡ numbersOf answer ⌝ }
+{
+    match answer {
+        Mended::Written(k) => Numbers {
+            number: 0,
+            line: 0,
+            column: 0,
+            length: k,
+            text: NEITHER,
+        },
+        Mended::Unread(why, line, column) => {
+            refused_in(LIST, lists::refusal_of(why), line, column)
+        }
+        Mended::Refused(why, line) => refused_in(SHEET, sheets::refusal_of(why), line, 0),
+        Mended::Full => refused_in(SHEET, Refusal::Full, 0, 0),
+    }
 }

@@ -134,7 +134,7 @@ returns-3 c =
     let a = c .before .before .before .before .before .before .before .before .args in
     let b = c .before .before .before .before .loop in
     out-whole (a .n) (a .rows .now) (a .sheet .now) (b .at) (b .line) (b .c) (b .g) (b .inv .3) (c .before .before .before .loop-test .left)
-    (sym (c .before .before .met .ensures) ∙ c .before .if2 .taken) _ (c .closed2 .ensures)
+    (sym (c .before .before .met .ensures) ∙ c .before .if2 .taken) (omega (arith, b .inv .0, b .inv .2, c .before .before .before .before .before .before .before .before .pre .1)) _ (c .closed2 .ensures)
 
 returns-4 : tie.Need-returns-4 Inv-loop μ-loop
 returns-4 c = 
