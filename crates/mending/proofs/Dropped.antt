@@ -13,7 +13,7 @@ use Rattle.lines.specs.declared.Alone.{Alone}
 use Rattle.lines.specs.declared.Alone.the-variants.{Only, Other}
 use Rattle.lines.proofs.Basics.{cond-cases}
 use Rattle.sheets.specs.Check.{groupsWord, sizeWord, behindOf}
-use Rattle.sheets.specs.declared.SheetFault.the-variants.{Ends}
+use Rattle.sheets.specs.declared.SheetFault.the-variants.{Extra}
 use Rattle.mends.specs.declared.Counts.{Counts}
 use Rattle.mends.specs.declared.Step.{Step}
 use Rattle.mends.specs.declared.Step.the-variants.{Stop, Groups, Size, Member}
@@ -39,7 +39,7 @@ member-begun c (Only u) = refl
 
 step-begun : (c : Counts) (l : List ℕ) → c .begun ≡ true → Begun (stepOf c l)
 step-begun c l b =
-    subst (λ (x : Bool). Begun (cond x (cond (leb 1 (c .need)) (memberOf c (aloneOf l)) (cond (leb 1 (c .left)) (sizeOf c (behindOf sizeWord l)) (Stop _))) (groupsOf (behindOf groupsWord l)))) (sym b)
+    subst (λ (x : Bool). Begun (cond x (cond (leb 1 (c .need)) (memberOf c (aloneOf l)) (cond (leb 1 (c .left)) (sizeOf c (behindOf sizeWord l)) (Stop Extra))) (groupsOf (behindOf groupsWord l)))) (sym b)
     (cond-cases Begun (leb 1 (c .need)) _ _ (λ _. member-begun c (aloneOf l)) (λ _. cond-cases Begun (leb 1 (c .left)) _ _ (λ _. size-begun c (behindOf sizeWord l)) (λ _. tt)))
 
 put-more : (b : Bool) (x : ℕ) (l m : List ℕ) → put b x (l ++ m) ≡ put b x l ++ m

@@ -5,3 +5,4 @@ pub mod Placing
 pub mod Ordering
 pub mod Reports
 pub mod Dropped
+pub mod Answers

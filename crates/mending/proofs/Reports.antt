@@ -77,7 +77,7 @@ module _ (n : ℕ) (seen u : ℕ) where
 
 -- one turn of the loop that puts them
 module _ (n : ℕ) (s : List ℕ) (a e k : ℕ) (c : Counts) (seen : ℕ) (q : e ≡ lineEnd s a) (l : e < length s) (o₀ w o : List ℕ) (p : ℕ)
-  (L : Left o₀ 0 w o p (droppedText (droppedAt n (linesOf (drop a s)) k c (has seen)))) where
+    (L : Left o₀ 0 w o p (droppedText (droppedAt n (linesOf (drop a s)) k c (has seen)))) where
   pub drops-groups : (d : Counts) → stepOf c (take (e - a) (drop a s)) ≡ Groups d → (o′ : List ℕ) (p′ : ℕ) (c′ : Counts) (seen′ : ℕ) → o′ ≡ o → p′ ≡ p → c′ ≡ d → seen′ ≡ seen
       → Left o₀ 0 w o′ p′ (droppedText (droppedAt n (linesOf (drop (e + 1) s)) (k + 1) c′ (has seen′)))
   drops-groups d x o′ p′ c′ seen′ eo ep ec es =

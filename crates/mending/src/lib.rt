@@ -18,7 +18,7 @@ ghost use Rattle.sheets.specs.Sound.{Within};
 ghost use Rattle.lines.specs.Text.{linesOf};
 ghost use Rattle.lines.specs.Numeral.{Put};
 ghost use Rattle.mends.specs.Typed.{groupsOf, sizeOf, memberOf, stepOf, met as metOf};
-ghost use Rattle.mends.specs.Mend.{taken as takenOf, clashes, sees as seesOf, memberOf as goneMember, closed as closedOf, admit, placeOf};
+ghost use Rattle.mends.specs.Mend.{taken as takenOf, clashes, sees as seesOf, memberOf as goneMember, closed as closedOf, admit, groupPlace};
 ghost use Rattle.mends.specs.Report.{droppedText, entryLine, putText};
 ghost use Rattle.mends.specs.Promise.{refusedIn, numbersOf, mendSheet, MendPromise};
 ghost use Rattle.mends.proofs.Groups.{Apart};
@@ -358,7 +358,7 @@ fn placed(rows: &[u64], n: usize, g: Groups, again: u64) -> Groups
 // The place of the group that has the entry e; `many` where none has.
 fn place_of(sets: [u64; 64], many: usize, e: usize) -> usize
     requires { ⌜ (many ≤ 64) × (e < 64) × (length sets ≡ 64) ⌝ }
-    ensures { λ r. ⌜ (r ≡ placeOf (map member (take many sets)) e) × (r ≤ many) ⌝ }
+    ensures { λ r. ⌜ (r ≡ groupPlace (map member (take many sets)) e) × (r ≤ many) ⌝ }
 {
     let mut j: usize = 0;
     while j < many {
@@ -373,7 +373,7 @@ fn place_of(sets: [u64; 64], many: usize, e: usize) -> usize
 // Groups numbered by smallest member: an entry that is its group's first opens the next number, any other has its first's.
 fn in_order(g: Groups, n: usize) -> Numbered
     requires { ⌜ (n ≤ 64) × (g .many ≤ 64) × (length (g .sets) ≡ 64) × Apart (setsOf g) × Everyone n (setsOf g) ⌝ }
-    ensures { λ r. ⌜ NumberedOf n (placeOf (setsOf g)) r ⌝ }
+    ensures { λ r. ⌜ NumberedOf n (groupPlace (setsOf g)) r ⌝ }
 {
     let sets = g.sets;
     let many = g.many;
@@ -513,7 +513,7 @@ fn put_dropped(out: &mut [u8], n: usize, sheet: &[u8]) -> usize
 // Entries put again, and groups in order.
 fn settled(rows: &[u64], n: usize, g: Gone, again: u64) -> Numbered
     requires { ⌜ RowsOf n (now rows) × Valid n (matrix (now rows)) × GoneAs n (matrix (now rows)) g × AgainOf n g again ⌝ }
-    ensures { λ r. ⌜ NumberedOf n (placeOf (mendedOf n (matrix (now (rows .entry))) (goingOf g))) r ⌝ }
+    ensures { λ r. ⌜ NumberedOf n (groupPlace (mendedOf n (matrix (now (rows .entry))) (goingOf g))) r ⌝ }
 {
     let sets = g.sets;
     let many = g.many;

@@ -14,7 +14,7 @@ use lib.Dec.{T, eqb, eqb→eq}
 use Rattle.sets.specs.Lists.{In, NoDup, put, some?, any, over}
 use Rattle.sets.proofs.TestLaws.{and-t, or-l, or-r, or-cases, eqb-of, T→true, T→false, any-make, any-get}
 use Rattle.clashes.specs.Matrix.{Valid}
-use Rattle.mends.specs.Mend.{none, with, clashes, admit, placeOf}
+use Rattle.mends.specs.Mend.{none, with, clashes, admit, groupPlace}
 
 abbrev pub has : List (ℕ → Bool) → ℕ → Bool
 has gs e = some? (λ p. p e) gs
@@ -75,12 +75,12 @@ module _ (n : ℕ) (clash : ℕ → ℕ → Bool) where
     over-free (e ∷ es) gs h f = over-free es (admit n clash gs e) (λ x m. h x (inr m)) (admit-free gs e (h e (inl refl)) f)
 
   -- two of one group do not clash
-  pub free-apart : (gs : List (ℕ → Bool)) → AllFree gs → (x y : ℕ) → x < n → y < n → T (has gs x) → T (has gs y) → placeOf gs x ≡ placeOf gs y → T (clash x y) → ⊥
+  pub free-apart : (gs : List (ℕ → Bool)) → AllFree gs → (x y : ℕ) → x < n → y < n → T (has gs x) → T (has gs y) → groupPlace gs x ≡ groupPlace gs y → T (clash x y) → ⊥
   free-apart [] f x y hx hy a b e c = a
   free-apart (p ∷ gs) f x y hx hy a b e c = go (p x) refl (p y) refl a b e (free-apart gs (f .1) x y hx hy)
     where
-      go : (s : Bool) → p x ≡ s → (t : Bool) → p y ≡ t → T (s || has gs x) → T (t || has gs y) → cond s 0 (suc (placeOf gs x)) ≡ cond t 0 (suc (placeOf gs y))
-          → (T (has gs x) → T (has gs y) → placeOf gs x ≡ placeOf gs y → T (clash x y) → ⊥) → ⊥
+      go : (s : Bool) → p x ≡ s → (t : Bool) → p y ≡ t → T (s || has gs x) → T (t || has gs y) → cond s 0 (suc (groupPlace gs x)) ≡ cond t 0 (suc (groupPlace gs y))
+          → (T (has gs x) → T (has gs y) → groupPlace gs x ≡ groupPlace gs y → T (clash x y) → ⊥) → ⊥
       go true h true i a b e r = f .0 x y hx hy (subst T (sym h) tt) (subst T (sym i) tt) c
       go true h false i a b e r = omega arith
       go false h true i a b e r = omega arith
@@ -157,7 +157,7 @@ one-has [] x y h = absurd h
 one-has (p ∷ gs) x y (inl h) = (or-l (p x) (has gs x) (h .0), or-l (p y) (has gs y) (h .1))
 one-has (p ∷ gs) x y (inr h) = let r = one-has gs x y h in (or-r (p x) (has gs x) (r .0), or-r (p y) (has gs y) (r .1))
 
-pub one-place : (gs : List (ℕ → Bool)) (x y : ℕ) → Apart gs → OneGroup gs x y → placeOf gs x ≡ placeOf gs y
+pub one-place : (gs : List (ℕ → Bool)) (x y : ℕ) → Apart gs → OneGroup gs x y → groupPlace gs x ≡ groupPlace gs y
 one-place [] x y a h = absurd h
 one-place (p ∷ gs) x y a (inl h) = rw (T→true (p x) (h .0), T→true (p y) (h .1))
 one-place (p ∷ gs) x y a (inr h) =

@@ -12,15 +12,15 @@ use Rattle.clashes.specs.Divisions.{at, Division, division, clashFree}
 use Rattle.clashes.specs.Matrix.{Valid}
 use Rattle.clashes.proofs.ColouringLaws.{proper-free}
 use Rattle.clashes.proofs.DivisionLaws.{division-canon, division-length, division-same, division-diff}
-use Rattle.mends.specs.Mend.{Going, gone, again, mendedGroups, placeOf, mended}
+use Rattle.mends.specs.Mend.{Going, gone, again, mendedGroups, groupPlace, mended}
 use Rattle.mends.proofs.Groups.{has, AllFree, Apart, OneGroup, over-free, over-old, over-new, over-apart, over-one, one-place, free-apart}
 use Rattle.mends.proofs.Sorted.{gone-sorted, again-homeless}
 
 module _ (n : ℕ) (clash : ℕ → ℕ → Bool) (gs : List (List ℕ)) where
   pub mended-division : Division n (mended n clash gs)
   mended-division = record {
-    numbered = division-canon ℕ-discrete n (placeOf (mendedGroups n clash gs));
-    long = division-length ℕ-discrete n (placeOf (mendedGroups n clash gs));
+    numbered = division-canon ℕ-discrete n (groupPlace (mendedGroups n clash gs));
+    long = division-length ℕ-discrete n (groupPlace (mendedGroups n clash gs));
   }
 
   module _ (v : Valid n clash) where
@@ -53,10 +53,10 @@ module _ (n : ℕ) (clash : ℕ → ℕ → Bool) (gs : List (List ℕ)) where
     mended-free =
         proper-free n clash (mended n clash gs) (λ x y hx hy c e.
         free-apart n clash (mendedGroups n clash gs) mended-all-free x y hx hy (mended-has x hx) (mended-has y hy)
-        (division-diff ℕ-discrete n (placeOf (mendedGroups n clash gs)) x y hx hy e) c)
+        (division-diff ℕ-discrete n (groupPlace (mendedGroups n clash gs)) x y hx hy e) c)
 
     -- two that were kept in one group stand in one group
     pub kept-together : (x y : ℕ) → x < n → y < n → OneGroup (gone n clash gs .groups) x y → at (mended n clash gs) x ≡ at (mended n clash gs) y
     kept-together x y hx hy h =
-        division-same ℕ-discrete n (placeOf (mendedGroups n clash gs)) x y hx hy
+        division-same ℕ-discrete n (groupPlace (mendedGroups n clash gs)) x y hx hy
         (one-place (mendedGroups n clash gs) x y mended-apart (over-one n clash (again n (gone n clash gs)) (gone n clash gs .groups) x y h))

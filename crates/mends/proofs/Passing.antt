@@ -24,7 +24,7 @@ use Rattle.clashes.proofs.DivisionLaws.{division-unique}
 use Rattle.lists.specs.Read.{inside}
 use Rattle.sheet_texts.specs.Sheet.{membersOf}
 use Rattle.sheet_texts.proofs.Groups.{Rising, rising-In, Led, group-led, members-risen, member-of, of-member}
-use Rattle.mends.specs.Mend.{none, with, Going, taken, clashes, keeping, lifting, sees, memberOf, closed, groupOf, start, gone, again, admit, mendedGroups, placeOf, mended}
+use Rattle.mends.specs.Mend.{none, with, Going, taken, clashes, keeping, lifting, sees, memberOf, closed, groupOf, start, gone, again, admit, mendedGroups, groupPlace, mended}
 use Rattle.mends.specs.Report.{droppedIn, droppedLines, droppedText, putText, reportText}
 use Rattle.mends.proofs.Groups.{has, with-cases, with-old, with-new}
 use Rattle.mends.proofs.Seen.{entry-inside, seen-was}
@@ -242,19 +242,19 @@ module _ (n : ℕ) (clash : ℕ → ℕ → Bool) (c : List ℕ) (canon : Canon 
       (λ x h t. ⊎-elim (λ a. subst (λ (p : ℕ → Bool). T (p x)) (all-calm .none-lifted) a)
       (λ a. t-not (s .seen x) a (all-calm .all-seen x h (canon-below 0 c x (omega arith)))) (or-cases (s .lifted x) (not (s .seen x)) t))
 
-  place-is : (gs : List (ℕ → Bool)) (g x : ℕ) → x < n → Are g gs → g ≤ at c x → at c x < g + length gs → placeOf gs x + g ≡ at c x
+  place-is : (gs : List (ℕ → Bool)) (g x : ℕ) → x < n → Are g gs → g ≤ at c x → at c x < g + length gs → groupPlace gs x + g ≡ at c x
   place-is [] g x h a l u = omega arith
   place-is (p ∷ gs) g x h a l u = go (p x) refl (place-is gs (g + 1) x h (a .1))
     where
-      go : (b : Bool) → p x ≡ b → (g + 1 ≤ at c x → at c x < g + 1 + length gs → placeOf gs x + (g + 1) ≡ at c x) → cond b 0 (suc (placeOf gs x)) + g ≡ at c x
+      go : (b : Bool) → p x ≡ b → (g + 1 ≤ at c x → at c x < g + 1 + length gs → groupPlace gs x + (g + 1) ≡ at c x) → cond b 0 (suc (groupPlace gs x)) + g ≡ at c x
       go true e r = omega (arith, a .0 x h .0 (subst T (sym e) tt))
       go false e r = let d : ¬ (at c x ≡ g) = (λ q. subst T e (a .0 x h .1 q)) in omega (arith, r (omega arith) (omega arith))
 
   pub passing-same : mended n clash (sheetGroups c) ≡ c
   passing-same =
       let gs = gone n clash (sheetGroups c) .groups in
-      ap (λ (es : List ℕ). division ℕ-discrete n (placeOf (over (admit n clash) gs es))) none-again
-      ∙ sym (division-unique ℕ-discrete n (placeOf gs) c canon long (λ x. x) (λ i j hi hj e. e)
+      ap (λ (es : List ℕ). division ℕ-discrete n (groupPlace (over (admit n clash) gs es))) none-again
+      ∙ sym (division-unique ℕ-discrete n (groupPlace gs) c canon long (λ x. x) (λ i j hi hj e. e)
       (λ i h. omega (arith, place-is gs 0 i h (all-calm .are) zero-le (omega (arith, all-calm .count, canon-below 0 c i (omega arith))))))
 
   pub passing-silent : reportText n clash (sheetGroups c) ≡ []

@@ -43,7 +43,7 @@ today = record { sevens = omega arith; short = sheet-fits }
 
 -- ---- no member stands before the first size
 
-abbrev Headed : Typed → Type 0
+abbrev pub Headed : Typed → Type 0
 Headed (is [] gs) = Unit {0}
 Headed (is (u ∷ us) gs) = ⊥
 Headed (faulty f k) = Unit {0}
@@ -75,7 +75,7 @@ rest-headed (ended l t) line left = size (leb 1 left) (behindOf sizeWord l)
     size true (Only s) = some (leb 1 s) _
     size false a = tt
 
-headed : (t : Text) → Headed (typedOf t)
+pub headed : (t : Text) → Headed (typedOf t)
 headed done = tt
 headed (unended l) = tt
 headed (ended l t) = go (behindOf groupsWord l)

@@ -14,7 +14,7 @@
 --   again n g            : the entries to be put again, rising
 --   admit n clash gs e   : the groups gs, with e in the first one that admits it, else in a new one at the end
 --   mendedGroups n clash gs : the groups of the mended sheet, in no order yet
---   placeOf gs e         : the place of e's group among gs
+--   groupPlace gs e      : the place of e's group among gs
 --   mended n clash gs    : the mended sheet, as a division of n entries
 --
 -- That "seen before" is just that the same number stands earlier in the sheet is `seen-stands` of proofs/Seen.antt; that lifted and absent entries are just
@@ -92,10 +92,10 @@ mendedGroups n clash gs = over (admit n clash) (gone n clash gs .groups) (again 
 
 -- ---- "the order is put right at the end"
 
-abbrev pub placeOf : List (ℕ → Bool) → ℕ → ℕ
-placeOf [] e = 0
-placeOf (p ∷ gs) e = cond (p e) 0 (suc (placeOf gs e))
+abbrev pub groupPlace : List (ℕ → Bool) → ℕ → ℕ
+groupPlace [] e = 0
+groupPlace (p ∷ gs) e = cond (p e) 0 (suc (groupPlace gs e))
 
 -- groups by smallest member, that is, numbered by first use
 abbrev pub mended : ℕ → (ℕ → ℕ → Bool) → List (List ℕ) → List ℕ
-mended n clash gs = division ℕ-discrete n (placeOf (mendedGroups n clash gs))
+mended n clash gs = division ℕ-discrete n (groupPlace (mendedGroups n clash gs))

@@ -23,7 +23,7 @@ add-r : tie.Need-add-r
 add-r c = search needs
 
 returns : tie.Need-returns
-returns c = 
+returns c =
     let a = c .before .before .before .before .before in (
       admitted-new (a .args .n) (matrix (a .args .rows .now)) (a .args .e) (a .args .g) (a .pre .2) (a .pre .3) _ (c .before .before .first-admitting .ensures)
           (c .before .if1 .taken) _ (c .with .ensures),
@@ -47,7 +47,7 @@ element-write-r-2 : tie.Need-element-write-r-2
 element-write-r-2 c = search needs
 
 returns-2 : tie.Need-returns-2
-returns-2 c = 
+returns-2 c =
     let a = c .before .before .before .before .before in (
       admitted-at (a .args .n) (matrix (a .args .rows .now)) (a .args .e) (a .args .g) (a .pre .2) (a .pre .3) _ (c .before .before .first-admitting .ensures)
           (c .before .if1 .left) _ (c .with2 .ensures),

@@ -12,7 +12,7 @@ use Rattle.mending.proofs.go_through.Statement.{statement}
 use Rattle.mending.proofs.go_through.Tie as tie
 
 abbrev Inv-loop : tie.InvT-loop
-Inv-loop rows n sheet c₀ g₀ at₀ line₀ c g at line = 
+Inv-loop rows n sheet c₀ g₀ at₀ line₀ c g at line =
     (at ≤ length sheet) × (line ≤ at + 1) × (g .bytes ≤ 16 * at) × Along 64 n rows sheet at line c g
 
 abbrev μ-loop : tie.MeasureT-loop
@@ -40,12 +40,11 @@ turned c =
     (w .1 .given .0 .0) (w .1 .given .0 .1 .0) (st ∙ w .1 .given .1) _ (w .3 .ensures) _ _ (w .4) (w .5)) v)
     (c .match .came)
 
-
 nothing-requires : tie.Need-nothing-requires Inv-loop μ-loop
 nothing-requires c κs = search needs
 
 loop-holds : tie.Need-loop-holds Inv-loop μ-loop
-loop-holds c = 
+loop-holds c =
     let a = c .before .before .before .args in
     let p = along-start (a .n) (a .rows .now) (a .sheet .now) _ (c .nothing .ensures) in
     (omega arith, omega arith, omega (arith, ap (λ (y : Gone). y .bytes) (c .nothing .ensures)), p)
@@ -57,7 +56,7 @@ unended-requires : tie.Need-unended-requires Inv-loop μ-loop
 unended-requires c κs = search needs
 
 returns : tie.Need-returns Inv-loop μ-loop
-returns c = 
+returns c =
     let a = c .before .before .before .before .before .before .before .before .args in
     let b = c .before .before .before .before .loop in
     out-halts (a .n) (a .rows .now) (a .sheet .now) (b .at) (b .line) (b .c) (b .g) (b .inv .3) _ (c .before .before .line-end .ensures .0)
@@ -79,7 +78,7 @@ enum-known-why : tie.Need-enum-known-why Inv-loop μ-loop
 enum-known-why c = search needs
 
 returns-2 : tie.Need-returns-2 Inv-loop μ-loop
-returns-2 c = 
+returns-2 c =
     let a = c .before .before .before .before .before .before .before .before .before .before .before .before .args in
     let b = c .before .before .before .before .before .before .before .before .loop in
     out-stops (a .n) (a .rows .now) (a .sheet .now) (b .at) (b .line) (b .c) (b .g) (b .inv .3) _ (c .before .before .before .before .before .before .line-end .ensures .0)
@@ -98,7 +97,7 @@ enum-known-d-3 : tie.Need-enum-known-d-3 Inv-loop μ-loop
 enum-known-d-3 c = search needs
 
 with-member-requires : tie.Need-with-member-requires Inv-loop μ-loop
-with-member-requires c κs = 
+with-member-requires c κs =
     let b = c .before .before .before .before .before .before .before .before .loop in
     (c .before .before .before .before .before .before .before .before .before .before .before .before .pre .0, b .inv .3 .fits, omega (arith, c .before .before .before .before .before .before .before .before .before .before .before .before .pre .1, b .inv .0, b .inv .1), omega (arith, c .before .before .before .before .before .before .before .before .before .before .before .before .pre .1, b .inv .0, b .inv .2))
 
@@ -112,7 +111,7 @@ loop-less : tie.Need-loop-less Inv-loop μ-loop
 loop-less c = omega (arith, c .before .before .before .before .line-end .ensures .0)
 
 loop-again : tie.Need-loop-again Inv-loop μ-loop
-loop-again c = 
+loop-again c =
     let a = c .before .before .before .before .before .before .before .before .before .before .args in
     let b = c .before .before .before .before .before .before .loop in
     let e = c .before .before .before .before .line-end in
@@ -130,14 +129,14 @@ closed-requires-2 : tie.Need-closed-requires-2 Inv-loop μ-loop
 closed-requires-2 c κs = (c .before .before .before .before .before .before .before .pre .0 .few, c .before .before .before .loop .inv .3 .fits)
 
 returns-3 : tie.Need-returns-3 Inv-loop μ-loop
-returns-3 c = 
+returns-3 c =
     let a = c .before .before .before .before .before .before .before .before .args in
     let b = c .before .before .before .before .loop in
     out-whole (a .n) (a .rows .now) (a .sheet .now) (b .at) (b .line) (b .c) (b .g) (b .inv .3) (c .before .before .before .loop-test .left)
     (sym (c .before .before .met .ensures) ∙ c .before .if2 .taken) (omega (arith, b .inv .0, b .inv .2, c .before .before .before .before .before .before .before .before .pre .1)) _ (c .closed2 .ensures)
 
 returns-4 : tie.Need-returns-4 Inv-loop μ-loop
-returns-4 c = 
+returns-4 c =
     let a = c .before .before .before .before .before .before .before .args in
     let b = c .before .before .before .loop in
     out-short (a .n) (a .rows .now) (a .sheet .now) (b .at) (b .line) (b .c) (b .g) (b .inv .3) (c .before .before .loop-test .left)

@@ -12,7 +12,7 @@ member-line-requires : tie.Need-member-line-requires
 member-line-requires c κs = search needs
 
 returns : tie.Need-returns
-returns c = 
+returns c =
     let a = c .before .before .before .before .before .before .args in
     c .member-line .ensures ∙ sym (at-member (a .c) (a .l .now) _
     (c .before .before .before .before .if1 .taken) (c .before .before .if2 .taken) (sym (c .before .one .ensures)))
@@ -27,14 +27,14 @@ size-line-requires : tie.Need-size-line-requires
 size-line-requires c κs = search needs
 
 returns-2 : tie.Need-returns-2
-returns-2 c = 
+returns-2 c =
     let a = c .before .before .before .before .before .before .before .before .before .args in
     c .size-line .ensures ∙ sym (at-size (a .c) (a .l .now) _
     (c .before .before .before .before .before .before .before .if1 .taken) (c .before .before .before .before .before .if2 .left) (c .before .before .before .if3 .taken)
     (sym (c .before .behind .ensures)))
 
 returns-3 : tie.Need-returns-3
-returns-3 c = 
+returns-3 c =
     let a = c .before .before .before .before .before .before .args in
     sym (at-end (a .c) (a .l .now) (c .before .before .before .before .if1 .taken) (c .before .before .if2 .left) (c .if3 .left))
 
@@ -48,7 +48,7 @@ groups-line-requires : tie.Need-groups-line-requires
 groups-line-requires c κs = search needs
 
 returns-4 : tie.Need-returns-4
-returns-4 c = 
+returns-4 c =
     let a = c .before .before .before .before .before .args in
     c .groups-line .ensures ∙ sym (at-groups (a .c) (a .l .now) _ (c .before .before .before .if1 .left) (sym (c .before .behind2 .ensures)))
 

@@ -1,40 +1,39 @@
+-- `mending::mend_lines` meets its contract: 18, the fault that was found, or what is written. Assumes nothing.
+use Rattle.clashes.specs.Matrix.{matrix}
+use Rattle.mending.proofs.Answers.{answered-long, answered-fault, whole-as}
 use borrow.Author.Needs.{needs}
 use Rattle.mending.proofs.mend_lines.Statement.{statement}
 use Rattle.mending.proofs.mend_lines.Tie as tie
-use Rattle.mending.proofs.mend_lines.Reads as reads
-use Rattle.mending.proofs.mend_lines.Lts as lts
-use Rattle.mending.proofs.go_through.Reads as go-through-reads
-use Rattle.mending.proofs.written.Reads as written-reads
 
--- src/lib.rt:566:9
 returns : tie.Need-returns
-returns c = ?
+returns c = let a = c .before .before .before .before .args in answered-long (a .n) (matrix (a .rows .now)) (a .sheet .now) (a .out .now) (c .if1 .taken)
 
--- src/lib.rt:568:9
 go-through-requires : tie.Need-go-through-requires
 go-through-requires c κs = search needs
 
--- src/lib.rt:571:23
 enum-known-shape : tie.Need-enum-known-shape
 enum-known-shape c = search needs
 
--- src/lib.rt:573:17
 enum-told : tie.Need-enum-told
 enum-told c = search needs
 
--- src/lib.rt:574:13
 written-requires : tie.Need-written-requires
-written-requires c κs = ?
+written-requires c κs =
+    let a = c .before .before .before .before .before .before .before .before .before in (
+      a .pre .0,
+      a .pre .1,
+      c .before .before .before .before .before .if1 .left,
+      whole-as (a .args .n) (matrix (a .args .rows .now)) (a .args .sheet .now) (a .args .out .now) _ (c .before .before .before .before .go-through .ensures) (c .before .before .enum-told .given .1),
+    )
 
--- src/lib.rt:561:1
 returns-2 : tie.Need-returns-2
-returns-2 c = ?
+returns-2 c =
+    let a = c .before .before .before .before .before .before .before .before .args in
+    answered-fault (a .n) (matrix (a .rows .now)) (a .sheet .now) (a .out .now) (c .before .before .before .before .if1 .left) _ (c .before .before .before .go-through .ensures) _ _ (c .before .shape .given .1)
 
--- src/lib.rt:561:1
 same-length : tie.Need-same-length
 same-length c = search needs
 
--- src/lib.rt:561:1
 returns-3 : tie.Need-returns-3
 returns-3 c = search needs
 

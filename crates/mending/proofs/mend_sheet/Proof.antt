@@ -1,42 +1,46 @@
+-- `mending::mend_sheet` meets its contract: the list's own refusals, then the sheet. Assumes nothing.
+use mathlib.Core.Path.{_≡_}
+use lib.ListN.{length}
+use Rattle.mending.proofs.Answers.{rows-of, rows-valid, promised, promised-unread}
 use borrow.Author.Needs.{needs}
 use Rattle.mending.proofs.mend_sheet.Statement.{statement}
 use Rattle.mending.proofs.mend_sheet.Tie as tie
-use Rattle.mending.proofs.mend_sheet.Reads as reads
-use Rattle.mending.proofs.mend_sheet.Lts as lts
-use Rattle.lists.proofs.gather.Reads as gather-reads
-use Rattle.mending.proofs.mend_lines.Reads as mend-lines-reads
 
--- src/lib.rt:584:9
 gather-requires : tie.Need-gather-requires
 gather-requires c κs = search needs
 
--- src/lib.rt:587:33
 enum-known-answer : tie.Need-enum-known-answer
 enum-known-answer c = search needs
 
--- src/lib.rt:588:30
 enum-known-answer-2 : tie.Need-enum-known-answer-2
 enum-known-answer-2 c = search needs
 
--- src/lib.rt:590:24
 slice-aggregate-mend-lines : tie.Need-slice-aggregate-mend-lines
 slice-aggregate-mend-lines c = search needs
 
--- src/lib.rt:590:13
 mend-lines-requires : tie.Need-mend-lines-requires
-mend-lines-requires c κs = ?
+mend-lines-requires c κs =
+    let a = c .before .before .before .before .before .before .before .before .before .before .args in
+    let f = c .before .before .before .before .before .before .gather in
+    let z : length (f .result .rows) ≡ 64 = search needs in (
+      rows-of (a .plain) (a .list .now) (f .result) (f .ensures) _ (c .before .before .before .before .answer2 .given .1) z,
+      rows-valid (a .plain) (a .list .now) (f .result) (f .ensures) _ (c .before .before .before .before .answer2 .given .1),
+    )
 
--- src/lib.rt:581:1
 returns : tie.Need-returns
-returns c = ?
+returns c =
+    let a = c .before .before .before .before .before .before .before .args in
+    let f = c .before .before .before .gather in
+    promised-unread (a .plain) (a .list .now) (f .result) (f .ensures) _ _ _ (c .before .answer .given .1) (a .sheet .now) (a .out .now)
 
--- src/lib.rt:581:1
 same-length : tie.Need-same-length
 same-length c = search needs
 
--- src/lib.rt:581:1
 returns-2 : tie.Need-returns-2
-returns-2 c = ?
+returns-2 c =
+    let a = c .before .before .before .before .before .before .before .before .before .before .before .before .before .args in
+    let f = c .before .before .before .before .before .before .before .before .before .gather in
+    promised (a .plain) (a .list .now) (f .result) (f .ensures) _ (c .before .before .before .before .before .before .before .answer2 .given .1) (a .sheet .now) (a .out .now) _ _ (c .before .before .mend-lines .ensures)
 
 pub mend-sheet-spec : {M : Type 1} → statement M
 mend-sheet-spec =

@@ -18,7 +18,7 @@ use Rattle.mending.proofs.placed.Statement.{statement}
 use Rattle.mending.proofs.placed.Tie as tie
 
 abbrev Inv-loop : tie.InvT-loop
-Inv-loop rows n again r₀ left₀ r left = 
+Inv-loop rows n again r₀ left₀ r left =
     (length (r .sets) ≡ 64) × Within n left × (r .many + size 64 left ≤ 64)
     × (over (admit n (matrix rows)) (setsOf r) (members (has left) 64) ≡ over (admit n (matrix rows)) (setsOf r₀) (members (has left₀) 64))
 
@@ -32,7 +32,7 @@ lowest-requires : tie.Need-lowest-requires Inv-loop μ-loop
 lowest-requires c κs = search needs
 
 admitted-requires : tie.Need-admitted-requires Inv-loop μ-loop
-admitted-requires c κs = 
+admitted-requires c κs =
     let a = c .before .before .before .before in
     let b = c .before .before .loop in
     let w = c .lowest .ensures in
@@ -45,7 +45,7 @@ loop-less : tie.Need-loop-less Inv-loop μ-loop
 loop-less c = let b = c .before .before .before .before .loop in omega (arith, rest-size (c .before .before .before .before .before .before .args .n) (b .left) _ (c .before .before .lowest .ensures) _ (c .rest .ensures _ (c .before .before .lowest .ensures)))
 
 loop-again : tie.Need-loop-again Inv-loop μ-loop
-loop-again c = 
+loop-again c =
     let a = c .before .before .before .before .before .before in
     let b = c .before .before .before .before .loop in
     let w = c .before .before .lowest .ensures in
@@ -60,7 +60,7 @@ loop-again c =
     )
 
 returns : tie.Need-returns Inv-loop μ-loop
-returns c = 
+returns c =
     let a = c .before .before .before in
     let b = c .before .loop in (
       sym (ap (over (admit (a .args .n) (matrix (a .args .rows .now))) (setsOf (b .r))) (none-left (b .left) (c .loop-test .left))) ∙ b .inv .3,

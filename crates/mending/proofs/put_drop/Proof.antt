@@ -11,7 +11,7 @@ taken-requires : tie.Need-taken-requires
 taken-requires c κs = search needs
 
 returns : tie.Need-returns
-returns c = 
+returns c =
     let a = c .before .before .before in
     none-put (a .args .n) (has (a .args .seen)) (a .args .line) (a .args .u) (a .args .out .now) (a .args .at) (a .pre .2) (sym (c .before .taken .ensures) ∙ c .if1 .taken)
 
@@ -19,7 +19,7 @@ slice-aggregate-put-one : tie.Need-slice-aggregate-put-one
 slice-aggregate-put-one c = search needs
 
 put-one-requires : tie.Need-put-one-requires
-put-one-requires c κs = 
+put-one-requires c κs =
     let a = c .before .before .before .before .before in (
       omega (arith, a .pre .1),
       line-room (a .args .n) (has (a .args .seen)) (a .args .line) (a .args .u) (a .args .out .now) (a .args .at) (a .pre .2) (sym (c .before .before .before .taken .ensures) ∙ c .before .before .if1 .left),
@@ -29,7 +29,7 @@ same-length : tie.Need-same-length
 same-length c = search needs
 
 returns-2 : tie.Need-returns-2
-returns-2 c = 
+returns-2 c =
     let a = c .before .before .before .before .before .before .before .before in
     line-put (a .args .n) (has (a .args .seen)) (a .args .line) (a .args .u) (a .args .out .now) (a .args .at) (a .pre .2) (sym (c .before .before .before .before .before .before .taken .ensures) ∙ c .before .before .before .before .before .if1 .left)
     _ _ (c .before .before .put-one .ensures)

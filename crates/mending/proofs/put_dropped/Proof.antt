@@ -20,7 +20,7 @@ use Rattle.mending.proofs.put_dropped.Statement.{statement}
 use Rattle.mending.proofs.put_dropped.Tie as tie
 
 abbrev Inv-loop : tie.InvT-loop
-Inv-loop out₀ n sheet a₀ c₀ seen₀ at₀ line₀ out a c seen at line = 
+Inv-loop out₀ n sheet a₀ c₀ seen₀ at₀ line₀ out a c seen at line =
     (at ≤ length sheet) × (line ≤ at + 1)
     × Left out₀ 0 (droppedText (droppedOf n sheet)) out a (droppedText (droppedAt n (linesOf (drop at sheet)) line c (has seen)))
 
@@ -50,9 +50,8 @@ turned c =
     _ _ (w .4 .ensures) _ (w .7 .ensures) _ _ _ _ (w .8) (w .9) (w .10) (w .11)) v)
     (c .match .came)
 
-
 loop-holds : tie.Need-loop-holds Inv-loop μ-loop
-loop-holds c = 
+loop-holds c =
     let a = c .before .before in
     let w = droppedText (droppedOf (a .args .n) (a .args .sheet .now)) in (
       omega arith,
@@ -68,7 +67,7 @@ same-length : tie.Need-same-length Inv-loop μ-loop
 same-length c = c .before .before .before .loop .inv .2 .same
 
 returns : tie.Need-returns Inv-loop μ-loop
-returns c = 
+returns c =
     let a = c .before .before .before .before .before .before .args in
     let b = c .before .before .before .loop in
     left-none (a .out .now) 0 _ (b .out) (b .a) _ (b .inv .2) (ap droppedText (halts-drops (a .sheet .now) (b .at) (b .line) (b .c) _ (c .before .line-end .ensures .0)
@@ -93,7 +92,7 @@ same-length-2 : tie.Need-same-length-2 Inv-loop μ-loop
 same-length-2 c = c .before .before .before .before .before .before .before .loop .inv .2 .same
 
 returns-2 : tie.Need-returns-2 Inv-loop μ-loop
-returns-2 c = 
+returns-2 c =
     let a = c .before .before .before .before .before .before .before .before .before .before .args in
     let b = c .before .before .before .before .before .before .before .loop in
     left-none (a .out .now) 0 _ (b .out) (b .a) _ (b .inv .2) (ap droppedText (turn-drops (a .sheet .now) (b .at) (b .line) (b .c) _ (c .before .before .before .before .before .line-end .ensures .0)
@@ -109,7 +108,7 @@ enum-known-d-3 : tie.Need-enum-known-d-3 Inv-loop μ-loop
 enum-known-d-3 c = search needs
 
 put-drop-requires : tie.Need-put-drop-requires Inv-loop μ-loop
-put-drop-requires c κs = 
+put-drop-requires c κs =
     let a = c .before .before .before .before .before .before .before .before .before .before .before .before in
     let b = c .before .before .before .before .before .before .before .before .before .loop in (
       a .pre .0,
@@ -131,7 +130,7 @@ loop-less : tie.Need-loop-less Inv-loop μ-loop
 loop-less c = omega (arith, c .before .before .before .before .line-end .ensures .0)
 
 loop-again : tie.Need-loop-again Inv-loop μ-loop
-loop-again c = 
+loop-again c =
     let b = c .before .before .before .before .before .before .loop in
     let e = c .before .before .before .before .line-end in
     (omega arith, omega (arith, e .ensures .0, b .inv .1), turned c)
@@ -140,7 +139,7 @@ same-length-3 : tie.Need-same-length-3 Inv-loop μ-loop
 same-length-3 c = c .before .loop .inv .2 .same
 
 returns-3 : tie.Need-returns-3 Inv-loop μ-loop
-returns-3 c = 
+returns-3 c =
     let a = c .before .before .before .before .args in
     let b = c .before .loop in
     left-none (a .out .now) 0 _ (b .out) (b .a) _ (b .inv .2) (ap droppedText (ends-drops (a .sheet .now) (b .at) (b .line) (b .c) (c .loop-test .left) (a .n) (has (b .seen))))

@@ -18,7 +18,7 @@ add-put-number : tie.Need-add-put-number
 add-put-number c = search needs
 
 put-number-requires : tie.Need-put-number-requires
-put-number-requires c κs = 
+put-number-requires c κs =
     let a = c .before .before .before .before .before .before .before in (
       omega (arith, a .pre .0),
       second-room (a .args .out .now) (a .args .at) putWord (numeral (a .args .e + 1)) (oneLine groupWord (a .args .g + 1)) (a .pre .2) _ _ (c .before .before .before .put-word .ensures),
@@ -31,7 +31,7 @@ add-put-one : tie.Need-add-put-one
 add-put-one c = search needs
 
 put-one-requires : tie.Need-put-one-requires
-put-one-requires c κs = 
+put-one-requires c κs =
     let a = c .before .before .before .before .before .before .before .before .before .before .before .before in (
       omega (arith, a .pre .1),
       third-room (a .args .out .now) (a .args .at) putWord (numeral (a .args .e + 1)) (oneLine groupWord (a .args .g + 1)) (a .pre .2) _ _
@@ -42,7 +42,7 @@ same-length : tie.Need-same-length
 same-length c = search needs
 
 returns : tie.Need-returns
-returns c = 
+returns c =
     let a = c .before .before .before .before .before .before .before .before .before .before .before .before .before .before .before in
     put-three (a .args .out .now) (a .args .at) putWord (numeral (a .args .e + 1)) (oneLine groupWord (a .args .g + 1)) (a .pre .2) _ _
     (c .before .before .before .before .before .before .before .before .before .before .before .put-word .ensures) _ _ (c .before .before .before .before .before .before .before .put-number .ensures) _ _ (c .before .before .put-one .ensures)

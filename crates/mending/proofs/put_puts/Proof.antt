@@ -15,7 +15,7 @@ use Rattle.mending.proofs.put_puts.Statement.{statement}
 use Rattle.mending.proofs.put_puts.Tie as tie
 
 abbrev Inv-loop : tie.InvT-loop
-Inv-loop out₀ at again colours a₀ left₀ out a left = 
+Inv-loop out₀ at again colours a₀ left₀ out a left =
     Within (length colours) left × Left out₀ at (putText colours (members (has again) 64)) out a (putText colours (members (has left) 64))
 
 abbrev μ-loop : tie.MeasureT-loop
@@ -34,7 +34,7 @@ wide-requires : tie.Need-wide-requires Inv-loop μ-loop
 wide-requires c κs = search needs
 
 put-entry-requires : tie.Need-put-entry-requires Inv-loop μ-loop
-put-entry-requires c κs = 
+put-entry-requires c κs =
     let a = c .before .before .before .before .before .before .before .before in
     let b = c .before .before .before .before .before .loop in
     let w = c .before .before .before .lowest .ensures in
@@ -51,7 +51,7 @@ loop-less : tie.Need-loop-less Inv-loop μ-loop
 loop-less c = omega (arith, rest-size 0 (c .before .before .before .before .before .before .before .before .before .loop .left) _ (c .before .before .before .before .before .before .before .lowest .ensures) _ (c .rest .ensures _ (c .before .before .before .before .before .before .before .lowest .ensures)))
 
 loop-again : tie.Need-loop-again Inv-loop μ-loop
-loop-again c = 
+loop-again c =
     let a = c .before .before .before .before .before .before .before .before .before .before .before .before in
     let b = c .before .before .before .before .before .before .before .before .before .loop in
     let w = c .before .before .before .before .before .before .before .lowest .ensures in
@@ -67,7 +67,7 @@ same-length : tie.Need-same-length Inv-loop μ-loop
 same-length c = c .before .loop .inv .1 .same
 
 returns : tie.Need-returns Inv-loop μ-loop
-returns c = 
+returns c =
     let a = c .before .before .before .before in
     let b = c .before .loop in
     left-none (a .args .out .now) (a .args .at) _ (b .out) (b .a) _ (b .inv .1) (ap (putText (a .args .colours .now)) (none-left (b .left) (c .loop-test .left)))

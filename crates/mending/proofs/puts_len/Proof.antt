@@ -16,7 +16,7 @@ use Rattle.mending.proofs.puts_len.Statement.{statement}
 use Rattle.mending.proofs.puts_len.Tie as tie
 
 abbrev Inv-loop : tie.InvT-loop
-Inv-loop again colours bytes₀ left₀ bytes left = 
+Inv-loop again colours bytes₀ left₀ bytes left =
     Within (length colours) left × (bytes + length (putText colours (members (has left) 64)) ≡ length (putText colours (members (has again) 64)))
     × (bytes + 32 * size 64 left ≤ 2048)
 
@@ -63,7 +63,7 @@ loop-less : tie.Need-loop-less Inv-loop μ-loop
 loop-less c = omega (arith, rest-size 0 (c .before .before .before .before .before .before .before .loop .left) _ (c .before .before .before .before .before .lowest .ensures) _ (c .rest .ensures _ (c .before .before .before .before .before .lowest .ensures)))
 
 loop-again : tie.Need-loop-again Inv-loop μ-loop
-loop-again c = 
+loop-again c =
     let a = c .before .before .before .before .before .before .before .before .before in
     let b = c .before .before .before .before .before .before .before .loop in
     let w = c .before .before .before .before .before .lowest .ensures in
@@ -88,7 +88,7 @@ loop-again c =
     )
 
 returns : tie.Need-returns Inv-loop μ-loop
-returns c = 
+returns c =
     let a = c .before .before .before in
     let b = c .before .loop in
     let z = ap (λ (es : List _). length (putText (a .args .colours .now) es)) (none-left (b .left) (c .loop-test .left)) in

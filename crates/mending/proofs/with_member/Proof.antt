@@ -15,17 +15,17 @@ sub-e : tie.Need-sub-e
 sub-e c = let a = c .before .before .before .args in omega (arith, taken-is (a .n) (has (a .g .seen)) (a .u) (sym (c .before .taken .ensures) ∙ c .if1 .taken))
 
 with-requires : tie.Need-with-requires
-with-requires c κs = 
+with-requires c κs =
     let a = c .before .before .before in
     omega (arith, taken-is (a .args .n) (has (a .args .g .seen)) (a .args .u) (sym (c .before .taken .ensures) ∙ c .if1 .taken) .1, a .pre .0 .few)
 
 mul-meet : tie.Need-mul-meet
-mul-meet c = 
+mul-meet c =
     let a = c .before .before .before .before in
     omega (arith, taken-is (a .args .n) (has (a .args .g .seen)) (a .args .u) (sym (c .before .before .taken .ensures) ∙ c .before .if1 .taken) .1, a .pre .0 .few)
 
 shared-slice-read-meet : tie.Need-shared-slice-read-meet
-shared-slice-read-meet c = 
+shared-slice-read-meet c =
     let a = c .before .before .before .before .before in
     omega (arith, taken-is (a .args .n) (has (a .args .g .seen)) (a .args .u) (sym (c .before .before .before .taken .ensures) ∙ c .before .before .if1 .taken) .1, a .pre .0 .long)
 
@@ -33,23 +33,23 @@ meet-requires : tie.Need-meet-requires
 meet-requires c κs = search needs
 
 with-requires-2 : tie.Need-with-requires-2
-with-requires-2 c κs = 
+with-requires-2 c κs =
     let a = c .before .before .before .before .before .before .before in
     omega (arith, taken-is (a .args .n) (has (a .args .g .seen)) (a .args .u) (sym (c .before .before .before .before .before .taken .ensures) ∙ c .before .before .before .before .if1 .taken) .1, a .pre .0 .few)
 
 returns : tie.Need-returns
-returns c = 
+returns c =
     let a = c .before .before .before .before .before .before .before .before in
     membered-lifts 64 (a .args .n) (a .args .rows .now) (a .pre .0) (a .args .g) (a .pre .1) (a .args .line) (a .args .u)
     (sym (c .before .before .before .before .before .before .taken .ensures) ∙ c .before .before .before .before .before .if1 .taken) _ (c .before .before .before .before .with .ensures) _ (c .before .before .meet .ensures) (c .before .if2 .taken) _ (c .with2 .ensures)
 
 with-requires-3 : tie.Need-with-requires-3
-with-requires-3 c κs = 
+with-requires-3 c κs =
     let a = c .before .before .before .before .before .before .before in
     omega (arith, taken-is (a .args .n) (has (a .args .g .seen)) (a .args .u) (sym (c .before .before .before .before .before .taken .ensures) ∙ c .before .before .before .before .if1 .taken) .1, a .pre .0 .few)
 
 returns-2 : tie.Need-returns-2
-returns-2 c = 
+returns-2 c =
     let a = c .before .before .before .before .before .before .before .before in
     membered-keeps 64 (a .args .n) (a .args .rows .now) (a .pre .0) (a .args .g) (a .pre .1) (a .args .line) (a .args .u)
     (sym (c .before .before .before .before .before .before .taken .ensures) ∙ c .before .before .before .before .before .if1 .taken) _ (c .before .before .before .before .with .ensures) _ (c .before .before .meet .ensures) (c .before .if2 .left) _ (c .with3 .ensures)
@@ -64,7 +64,7 @@ add-r-2 : tie.Need-add-r-2
 add-r-2 c = search needs
 
 returns-3 : tie.Need-returns-3
-returns-3 c = 
+returns-3 c =
     let a = c .before .before .before .before .before in
     membered-drops 64 (a .args .n) (a .args .rows .now) (a .pre .0) (a .args .g) (a .pre .1) (a .args .line) (a .args .u)
     (sym (c .before .before .before .taken .ensures) ∙ c .before .before .if1 .left) _ (omega (arith, c .before .number-len .ensures .0))
