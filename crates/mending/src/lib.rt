@@ -192,13 +192,16 @@ fn with_member(rows: &[u64], n: usize, g: Gone, line: usize, u: usize) -> Gone
     ensures { λ r. ⌜ (goingOf r ≡ goneMember n (matrix (now (rows .entry))) (goingOf g) u) × Fits n r × (r .bytes ≡ g .bytes + length (droppedText (droppedMore n (member (g .seen)) line u))) ⌝ }
 {
     let mut r = g;
-    if taken(n, r.seen, u) {
+    let met = r.seen;
+    if taken(n, met, u) {
         let e = u - 1;
-        r.seen = sets::with(r.seen, e);
+        let seen = sets::with(met, e);
         if sets::meet(r.mates, rows[e]) != 0 {
+            r.seen = seen; // met again, it is dropped
             r.lifted = sets::with(r.lifted, e);
             return r;
         }
+        r.seen = seen;
         r.mates = sets::with(r.mates, e);
         return r;
     }
@@ -503,7 +506,7 @@ fn put_dropped(out: &mut [u8], n: usize, sheet: &[u8]) -> usize
             }
         }
         at = e + 1;
-        line += 1;
+        line += 1; // the sheet's lines, dropped or not
     }
     a
 }
