@@ -153,3 +153,18 @@ fn safe_wrappers() {
         }
     }
 }
+
+/// The sheets of `examples/`, as a volunteer would leave them, each for the camp: what is stored of them in `mended/`, where the camp's own sheet comes back.
+#[test]
+fn volunteers_sheets() {
+    let here = std::path::Path::new(env!("CARGO_MANIFEST_DIR"));
+    let read = |path: &str| std::fs::read(here.join(path)).expect("stored");
+    let (list, right) = (read("../examples/camp.col"), read("walks/sheets/camp"));
+    for (name, why, line) in [("twice", 33, 12), ("swapped", 32, 9), ("missing", 36, 17), ("clash", 34, 7)] {
+        let (sheet, expected) = (read(&format!("../examples/camp-{name}.sheet")), read(&format!("mended/camp-{name}")));
+        let (said, out) = compared(&PLAIN, list::read, &list, &sheet, expected.len());
+        assert_eq!((said[0], &out), (0, &expected), "{name}");
+        assert!(expected.ends_with(&right), "{name}");
+        assert_eq!((PLAIN.check_sheet)(&list, &sheet, &mut [0; 64]), [why, line, 0, 0, 2], "{name}");
+    }
+}
