@@ -55,13 +55,19 @@ fn mended(list: &[u8], sheet: &[u8], met: &mut Met) {
         if std::ptr::eq(calls, &REPEATS) {
             continue;
         }
-        compared(calls, read, list, sheet, length);
-        assert_eq!(compared(calls, read, list, sheet, length - 1).0, [19, 0, 0, 0, 2]);
+        let mut just = Lent::new(length, FILL);
+        assert_eq!((calls.mend_sheet)(list, sheet, just.part()), said);
+        assert_eq!(just.part(), out);
+        let mut less = Lent::new(length - 1, FILL);
+        assert_eq!((calls.mend_sheet)(list, sheet, less.part()), [19, 0, 0, 0, 2]);
+        assert_eq!(less, Lent::new(length - 1, FILL));
         let report = out.split_inclusive(|&b| b == b'\n').take(made.dropped.len() + made.put.len()).map(<[u8]>::len).sum();
         let right = &out[report..];
         let mut colours = [0; 64];
         assert_eq!((calls.check_sheet)(list, right, &mut colours)[..3], [0; 3], "{:?}", String::from_utf8_lossy(right));
-        assert_eq!(compared(calls, read, list, right, right.len()).1, right);
+        let mut again = Lent::new(right.len(), FILL);
+        assert_eq!((calls.mend_sheet)(list, right, again.part()), [0, 0, 0, right.len(), 0]);
+        assert_eq!(again.part(), right);
         let passes = (calls.check_sheet)(list, sheet, &mut colours)[0] == 0;
         assert_eq!(passes, out == sheet);
         met.unchanged += usize::from(passes);
