@@ -304,14 +304,16 @@ fn mended(said: raw::Mending) -> Result<usize, Fault> {
 /// assert_eq!(fault.to_string(), "sheet: line 4: the sheet ends here, before all the groups and entries that it states");
 /// ```
 pub fn mend_sheet(list: &[u8], sheet: &[u8], out: &mut [u8]) -> Result<usize, Fault> {
+    let (room, lent) = (out.len(), out.as_mut_ptr());
     // SAFETY: as in `validity`.
-    mended(unsafe { raw::slotsheet_mend_sheet(list.as_ptr(), list.len(), sheet.as_ptr(), sheet.len(), out.as_mut_ptr(), out.len()) })
+    mended(unsafe { raw::slotsheet_mend_sheet(list.as_ptr(), list.len(), sheet.as_ptr(), sheet.len(), lent, room) })
 }
 
 /// The same, and an edge of the list may stand a second time.
 pub fn mend_sheet_repeats(list: &[u8], sheet: &[u8], out: &mut [u8]) -> Result<usize, Fault> {
+    let (room, lent) = (out.len(), out.as_mut_ptr());
     // SAFETY: as in `validity`.
-    mended(unsafe { raw::slotsheet_mend_sheet_repeats(list.as_ptr(), list.len(), sheet.as_ptr(), sheet.len(), out.as_mut_ptr(), out.len()) })
+    mended(unsafe { raw::slotsheet_mend_sheet_repeats(list.as_ptr(), list.len(), sheet.as_ptr(), sheet.len(), lent, room) })
 }
 
 /// What a part is of its text.
