@@ -1,0 +1,20 @@
+-- `shrinking::second` meets its contract. Assumes nothing.
+use mathlib.Core.Path.{_≡_, refl, sym, ap, _∙_}
+use mathlib.Core.Bool.{Bool, true, false, _||_}
+use borrow.Author.Tests.{eq-eqb, ne-eqb}
+use Rattle.sets.proofs.TestLaws.{or-turn, or-false}
+use Rattle.shrinking.proofs.second.Statement.{statement}
+use Rattle.shrinking.proofs.second.Tie as tie
+
+returns : tie.Need-returns
+returns c =
+    let a = c .before .args in
+    sym (ap (λ (b : Bool). a .few || b) (eq-eqb (a .v) (a .u) (c .if1 .taken)) ∙ or-turn (a .few) true)
+
+returns-2 : tie.Need-returns-2
+returns-2 c =
+    let a = c .before .args in
+    sym (ap (λ (b : Bool). a .few || b) (ne-eqb (a .v) (a .u) (c .if1 .left)) ∙ or-false (a .few))
+
+pub second-spec : {M : Type 1} → statement M
+second-spec = tie.close (tie.spec returns returns-2)

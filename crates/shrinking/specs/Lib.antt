@@ -1,0 +1,3 @@
+-- What the functions promise: who goes, the small rows, putting back.
+pub mod Words
+pub mod Seats
