@@ -131,8 +131,8 @@ pub fn mended_long(list: &[u8], out: &mut [u8], plain: bool) -> Printed
 {
     let found = lists::gather(list, 64, plain);
     let read = found.answer;
-    if let Reading::Read(_n) = read {
-        return answer_long(out);
+    match read {
+        Reading::Read(_n) => answer_long(out),
+        Reading::Refused(_why, _at, _spot) => answer(list, out, plain),
     }
-    answer(list, out, plain)
 }
