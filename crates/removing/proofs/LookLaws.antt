@@ -1,7 +1,7 @@
 -- Laws of looking for the lowest entry that meets a rule: `left` is who has not been looked at. Assumes nothing.
-use mathlib.Core.Path.{_≡_, refl, sym, ap, ap₂, _∙_, subst}
+use mathlib.Core.Path.{_≡_, refl, sym, ap, _∙_, subst}
 use mathlib.Core.Logic.{_≢_}
-use mathlib.Core.Bool.{Bool, true, false, not, _&&_, cond}
+use mathlib.Core.Bool.{Bool, true, false, not, cond}
 use mathlib.Core.List.{List}
 use mathlib.Core.Option.{Option, none, some, Option·none-ne-some}
 use Prim.Native.Nat.{ℕ, _≤_, _<_}
@@ -34,7 +34,8 @@ module _ (n : ℕ) (here test : ℕ → Bool) (pick : Option ℕ → Option Remo
     pub idle : g .found ≡ false → (x : ℕ) → x < n → ¬ T (has left x) → ¬ T (test x)
     pub done : g .found ≡ true → (left ≡ 0) × (goesOf g ≡ pick (lowest test n))
 
-  pub looked-start : (left : ℕ) (g : Goes) → g .found ≡ false → ((x : ℕ) → T (has left x) → (x < n) × T (here x)) → ((x : ℕ) → T (test x) → T (has left x))
+  pub looked-start : (left : ℕ) (g : Goes) → g .found ≡ false → ((x : ℕ) → T (has left x) → (x < n) × T (here x))
+      → ((x : ℕ) → T (test x) → T (has left x))
       → Looked left g
   looked-start left g e b f = record { within = b; idle = λ q x c out t. out (f x t); done = λ q. true-false (g .found) q e }
 
@@ -110,7 +111,9 @@ module _ (rows : List ℕ) (present : ℕ) (g : Listed rows present) where
       u-below = g .entries u (and-l (has present u) _ cover)
 
       pub covered-some : T (isCovered n (matrix rows) (has present) v)
-      covered-some = and-t (has present v) (any n (covers n (matrix rows) (has present) v)) here (any-make n (covers n (matrix rows) (has present) v) u u-below cover)
+      covered-some =
+          and-t (has present v) (any n (covers n (matrix rows) (has present) v)) here
+          (any-make n (covers n (matrix rows) (has present) v) u u-below cover)
 
       -- u is the lowest of them, and another entry than v
       pub covered-noted : removal v u ≡ covered v (noted n (matrix rows) (has present) v)
@@ -128,7 +131,8 @@ module _ (rows : List ℕ) (present : ℕ) (g : Listed rows present) where
     -- as many as clash with v
     near-clashing : (cap : ℕ) → n ≤ cap → size cap near ≡ clashing n (matrix rows) (has present) v
     near-clashing cap b =
-        count-narrow (has near) n cap b (λ j c t. let z : ⊥ = omega (arith, g .entries j (and-l (has present j) (matrix rows v j) (subst T (met j) t))) in z)
+        count-narrow (has near) n cap b
+        (λ j c t. let z : ⊥ = omega (arith, g .entries j (and-l (has present j) (matrix rows v j) (subst T (met j) t))) in z)
         ∙ ap (λ (p : ℕ → Bool). count p (upto n)) (λ i j. met j i)
 
     pub few-some : (cap : ℕ) → n ≤ cap → size cap near < bound → T (hasFew n (matrix rows) (has present) bound v)

@@ -80,9 +80,11 @@ module _ (rows : List ℕ) (present : ℕ) (g : Listed rows present) where
         (and-t (not (eqb v u)) (all n (shared? u)) (and-r (has present u) (not (eqb v u)) q)
         (all-make n (shared? u) (λ x b. go x b here (a .1 x) (T? (has present x && matrix rows v x)))))
       where
-        go : (x : ℕ) → x < n → T (has present u) → (T (has near x) → T (matrix rows x u)) → Dec (T (has present x && matrix rows v x)) → T (shared? u x)
+        go : (x : ℕ) → x < n → T (has present u) → (T (has near x) → T (matrix rows x u)) → Dec (T (has present x && matrix rows v x))
+            → T (shared? u x)
         go x b here f (yes c) =
-            or-r (not (has present x && matrix rows v x)) (matrix rows u x) (g .valid .both-ways x u b (g .entries u here) (f (subst T (sym (met x)) c)))
+            or-r (not (has present x && matrix rows v x)) (matrix rows u x)
+            (g .valid .both-ways x u b (g .entries u here) (f (subst T (sym (met x)) c)))
         go x b here f (no c) = or-l (not (has present x && matrix rows v x)) (matrix rows u x) (not-T (has present x && matrix rows v x) c)
 
     pub covers-sharing : (u : ℕ) → T (covers n (matrix rows) (has present) v u) → T (has others u)

@@ -1,18 +1,18 @@
 -- Laws of the loop that shrinks: who has gone, and then who is still to go, are all who go. Assumes nothing.
 use mathlib.Core.Path.{_≡_, refl, sym, ap, ap₂, _∙_, subst}
 use mathlib.Core.Logic.{_≢_}
-use mathlib.Core.Bool.{Bool, true, false, not, _&&_, _||_, cond}
+use mathlib.Core.Bool.{Bool, true, false, not, _||_, cond}
 use mathlib.Core.List.{List, [], _∷_, _++_, append-assoc, append-nil}
-use mathlib.Core.Option.{Option, none, some}
+use mathlib.Core.Option.{none, some}
 use Prim.Native.Nat.{ℕ, suc, _+_, _≤_, _<_}
 use native.Mathlib.Numerals.{add-one}
 use native.Mathlib.Decide.{ℕ-discrete}
 use native.Mathlib.Omega.{arith}
-use lib.Dec.{T, eqb, ltb, ltb→lt}
+use lib.Dec.{T, eqb, ltb→lt}
 use lib.ListN.{length, set, length-set}
 use lib.Seq.{getD-set-same, getD-set-other}
 use borrow.Author.Tests.{lt-ltb, ne-eqb}
-use Rattle.sets.specs.Lists.{count, table, upto, some?}
+use Rattle.sets.specs.Lists.{some?}
 use Rattle.sets.specs.Set.{has, size, IsWithout, IsBelow}
 use Rattle.sets.proofs.TestLaws.{and-l, or-turn, or-assoc}
 use Rattle.sets.proofs.ListLaws.{table-suc}
@@ -28,7 +28,6 @@ use Rattle.shrink.proofs.BackLaws.{every-below}
 use Rattle.shrink.proofs.Alike.{table-agree}
 use Rattle.removing.specs.Words.{Entries, removal, goesOf, removed, Shrank}
 use Rattle.removing.specs.declared.Goes.{Goes}
-use Rattle.removing.specs.declared.Shrunk.{Shrunk}
 
 -- ---- one removal more
 
@@ -70,7 +69,8 @@ pub record Going (cap L : ℕ) (rows who other : List ℕ) (used : Bool) (m pres
   pub long-who : length who ≡ cap
   pub long-other : length other ≡ cap
   pub entries : Entries (length rows) present
-  pub still : removed who other m ++ removals L (length rows) (matrix rows) (size (length rows) present) (has present) ≡ gone L (length rows) (matrix rows)
+  pub still : removed who other m ++ removals L (length rows) (matrix rows) (size (length rows) present) (has present)
+      ≡ gone L (length rows) (matrix rows)
   pub stays : _≡_ {A = ℕ → Bool} (left (everyone (length rows)) (removed who other m)) (has present)
   pub second : used ≡ some? isFew (removed who other m)
   pub all : m + size (length rows) present ≡ length rows
@@ -106,7 +106,9 @@ module _ (cap L : ℕ) (rows : List ℕ) (most : length rows ≤ cap) where
       next-some = sym (h .turn) ∙ ap (λ (b : Bool). cond b (some r) none) e
 
       allowed : Allowed L n (matrix rows) (has present) r
-      allowed = next-allowed L n (matrix rows) (has present) r (subst (Next L n (matrix rows) (has present)) next-some (next-is L n (matrix rows) (has present)))
+      allowed =
+          next-allowed L n (matrix rows) (has present) r (subst (Next L n (matrix rows) (has present)) next-some
+          (next-is L n (matrix rows) (has present)))
 
       who-is : (entry r < n) × T (has present (entry r))
       who-is = allowed-entry L n (matrix rows) (has present) r allowed
@@ -142,8 +144,12 @@ module _ (cap L : ℕ) (rows : List ℕ) (most : length rows ≤ cap) where
             ∙ append-assoc (removed who other m) (r ∷ []) (removals L n (matrix rows) (size n present′) (has present′))
             ∙ ap (λ (l : List Removal). removed who other m ++ l) (sym onward)
             ∙ h .still;
-        stays = ap (left (everyone n)) more ∙ left-more (everyone n) (removed who other m) r ∙ ap₂ without (removal-entry (g .who) (g .other)) (h .stays) ∙ sym gone-one;
-        second = ap₂ (λ (a b : Bool). a || b) (h .second) (sym (removal-isFew (g .who) (g .other))) ∙ sym (some-more (removed who other m) r) ∙ ap (some? isFew) (sym more);
+        stays =
+            ap (left (everyone n)) more ∙ left-more (everyone n) (removed who other m) r
+            ∙ ap₂ without (removal-entry (g .who) (g .other)) (h .stays) ∙ sym gone-one;
+        second =
+            ap₂ (λ (a b : Bool). a || b) (h .second) (sym (removal-isFew (g .who) (g .other)))
+            ∙ sym (some-more (removed who other m) r) ∙ ap (some? isFew) (sym more);
         all = omega (arith, h .all, fewer);
         turn = t;
       }
@@ -161,7 +167,8 @@ module _ (cap L : ℕ) (rows : List ℕ) (most : length rows ≤ cap) where
           onward =
               ap (λ (k : ℕ). removals L n (matrix rows) k (has present)) (sym fewer)
               ∙ removals-next L n (matrix rows) (size n present′) (has present) r next-some
-              ∙ ap (λ (p : ℕ → Bool). r ∷ removals L n (matrix rows) (size n present′) p) (ap (λ (v : ℕ). without v (has present)) (removal-entry (g .who) (g .other)) ∙ sym gone-one)
+              ∙ ap (λ (p : ℕ → Bool). r ∷ removals L n (matrix rows) (size n present′) p)
+              (ap (λ (v : ℕ). without v (has present)) (removal-entry (g .who) (g .other)) ∙ sym gone-one)
 
       pub going-less : (present′ : ℕ) → IsWithout present (g .who) present′ → size n present′ < size n present
       going-less present′ w = omega (arith, size-without n present (g .who) present′ who-below who-here w)

@@ -1,15 +1,14 @@
 -- Laws of putting back, the last first: who is behind, in the order of removal, is back, and who is before it is not. Assumes nothing.
 use mathlib.Core.Path.{_≡_, refl, sym, ap, ap₂, _∙_, subst}
-use mathlib.Core.Logic.{_≢_}
 use mathlib.Core.Bool.{Bool, true, false, not, _&&_, cond}
 use mathlib.Core.List.{List, [], _∷_, _++_, append-assoc, append-nil}
-use Prim.Native.Nat.{ℕ, zero, suc, _+_, _≤_, _<_, max}
+use Prim.Native.Nat.{ℕ, suc, _+_, _≤_, _<_, max}
 use native.Mathlib.Decide.{ℕ-discrete}
 use native.Mathlib.Omega.{arith}
 use borrow.Author.Tests.{eq-eqb, ne-eqb}
 use lib.Dec.{T, eqb, ltb→lt}
-use lib.ListN.{length, getD, set, length-set}
-use Rattle.sets.specs.Set.{has, IsWith}
+use lib.ListN.{length, set, length-set}
+use Rattle.sets.specs.Set.{IsWith}
 use Rattle.sets.proofs.TestLaws.{and-true}
 use Rattle.sets.proofs.ListLaws.{table-suc}
 use Rattle.clashes.specs.Matrix.{matrix}
@@ -132,9 +131,11 @@ module _ (cap : ℕ) (rows who other : List ℕ) (all : ℕ) (h : Seats) (g : Re
     fits =
         subst (λ (t : Seating). Fits n clash (here (suc i)) t) (sym (k .is))
         (back-fits n clash (g .bound) (g .valid) (here (suc i)) (k .behind)
-        (steps-behind (g .bound) n clash (everyone n) (gone (suc i)) (k .behind) (subst (Steps (g .bound) n clash (everyone n)) (sym (k .split)) (g .steps)))
+        (steps-behind (g .bound) n clash (everyone n) (gone (suc i)) (k .behind)
+        (subst (Steps (g .bound) n clash (everyone n)) (sym (k .split)) (g .steps)))
         (seatingOf h)
-        (subst (λ (q : ℕ → Bool). Fits n clash q (seatingOf h)) (ap (left (everyone n)) (sym (k .split)) ∙ left-append (everyone n) (gone (suc i)) (k .behind)) (g .fits)))
+        (subst (λ (q : ℕ → Bool). Fits n clash q (seatingOf h))
+        (ap (left (everyone n)) (sym (k .split)) ∙ left-append (everyone n) (gone (suc i)) (k .behind)) (g .fits)))
 
     -- an entry that is noted with itself, or another that is present
     pub other-is : (v ≡ u → ⊥) → (u < n) × T (here (suc i) u)
@@ -183,9 +184,12 @@ module _ (cap : ℕ) (rows who other : List ℕ) (all : ℕ) (h : Seats) (g : Re
           ∙ ap (λ (x : ℕ). into v x cur) (seat-is j found .1)
           ∙ sym (put-seat n clash (here (suc i)) cur v u)
           ∙ ap₂ (λ (p : ℕ → Bool) (c : Seating). put n clash p r c) (here-without ∙ ap (λ (x : ℕ). without x (here i)) (sym (removal-entry v u)))
-          (k .is ∙ ap (λ (p : ℕ → Bool). back n clash p (k .behind) (seatingOf h)) (here-without ∙ ap (λ (x : ℕ). without x (here i)) (sym (removal-entry v u))))
+          (k .is ∙ ap (λ (p : ℕ → Bool). back n clash p (k .behind) (seatingOf h))
+          (here-without ∙ ap (λ (x : ℕ). without x (here i)) (sym (removal-entry v u))))
           ∙ sym (back-more n clash (here i) r (k .behind) (seatingOf h));
-      held = sets-into cap (here (suc i)) (here i) group sets v j t (k .held) (omega (arith, k .long-group, who-is .0, g .few)) (omega (arith, k .long-sets, k .room, g .few, seat-is j found .0)) a
+      held =
+          sets-into cap (here (suc i)) (here i) group sets v j t (k .held) (omega (arith, k .long-group, who-is .0, g .few))
+          (omega (arith, k .long-sets, k .room, g .few, seat-is j found .0)) a
           (λ z. without-other v (here i) v (subst (λ (p : ℕ → Bool). T (p v)) here-without z) refl) (who-is .1)
           (λ x q. sym ((λ y. here-without y x) ∙ ap (λ (b : Bool). here i x && not b) (ne-eqb v x (λ z. q (sym z))) ∙ and-true (here i x)));
       room = omega (arith, k .room, seat-is j found .0, f);

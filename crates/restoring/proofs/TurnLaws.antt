@@ -1,9 +1,8 @@
 -- Laws of going through a set's members, lowest first, with a count: places, and the shrunk list's rows. Assumes nothing.
 use mathlib.Core.Path.{_≡_, refl, sym, ap, ap₂, _∙_, subst}
-use mathlib.Core.Logic.{_≢_}
 use mathlib.Core.Bool.{Bool, true, false, not, _&&_, _||_}
-use mathlib.Core.List.{List, [], _∷_}
-use Prim.Native.Nat.{ℕ, zero, suc, _+_, _≤_, _<_}
+use mathlib.Core.List.{List, []}
+use Prim.Native.Nat.{ℕ, _+_, _<_}
 use native.Mathlib.Numerals.{add-one}
 use native.Mathlib.Decide.{ℕ-discrete, decLt}
 use native.Mathlib.Omega.{arith}
@@ -11,7 +10,7 @@ use borrow.Author.Tests.{lt-ltb, le-ltb, eq-eqb, ne-eqb}
 use lib.Dec.{T, eqb, ltb}
 use lib.ListN.{length, getD, set, drop, length-set}
 use lib.Seq.{drop-cons, getD-drop, getD-set-same, getD-set-other}
-use Rattle.sets.specs.Lists.{members, count}
+use Rattle.sets.specs.Lists.{members}
 use Rattle.sets.specs.Set.{has, size, IsWith, IsWithout, IsMeet, IsLowest}
 use Rattle.sets.proofs.TestLaws.{and-l, and-r, and-true, or-false, T→true}
 use Rattle.sets.proofs.MemberLaws.{members-count, members-noDup, In-members, members-In}
@@ -99,7 +98,8 @@ module _ (cap s : ℕ) where
   pub placing-start : (out : List ℕ) → length out ≡ cap → Placing out s 0
   placing-start out e = record { long = e; turned = turned-start; placed = λ x b h q. absurd (q h) }
 
-  pub placing-next : (out : List ℕ) (left i w left′ : ℕ) → Placing out left i → IsLowest cap left w → IsWithout left w left′ → Placing (set out w i) left′ (i + 1)
+  pub placing-next : (out : List ℕ) (left i w left′ : ℕ) → Placing out left i → IsLowest cap left w → IsWithout left w left′
+      → Placing (set out w i) left′ (i + 1)
   placing-next out left i w left′ k low r = record {
     long = length-set out w i ∙ k .long;
     turned = turned-next left i w (k .turned) low left′ r;
@@ -158,7 +158,8 @@ module _ (cap s : ℕ) where
         go j (yes b) (yes q) = on-w (at l j) (ap (at l) (sym q ∙ e) ∙ place-name w (low .below) (both .1))
           where
             -- j is w's place
-            on-w : (y : ℕ) → y ≡ w → ((ltb j (size cap s) && (has row y && not (has left y))) || eqb i j) ≡ (ltb j (size cap s) && (has row y && not (has left′ y)))
+            on-w : (y : ℕ) → y ≡ w → ((ltb j (size cap s) && (has row y && not (has left y))) || eqb i j)
+                ≡ (ltb j (size cap s) && (has row y && not (has left′ y)))
             on-w y z = rw z
                 (ap₂ (λ (t u : Bool). (t && (has row w && not (has left w))) || u) (lt-ltb j (size cap s) b) (eq-eqb i j q)
                 ∙ or-true (has row w && not (has left w))
@@ -182,10 +183,12 @@ module _ (cap s : ℕ) where
             stays : has left′ (at l j) ≡ has left (at l j)
             stays =
                 r (at l j)
-                ∙ ap (λ (t : Bool). has left (at l j) && not t) (ne-eqb w (at l j) (λ z. q (e ∙ ap (λ (y : ℕ). place ℕ-discrete y l) z ∙ name-place j b)))
+                ∙ ap (λ (t : Bool). has left (at l j) && not t)
+                (ne-eqb w (at l j) (λ z. q (e ∙ ap (λ (y : ℕ). place ℕ-discrete y l) z ∙ name-place j b)))
                 ∙ and-true (has left (at l j))
         go j (no c) d =
-            ap₂ (λ (t u : Bool). (t && (has row (at l j) && not (has left (at l j)))) || u) (le-ltb j (size cap s) (omega arith)) (ne-eqb i j (λ z. let y : ⊥ = omega (arith, i-below) in y))
+            ap₂ (λ (t u : Bool). (t && (has row (at l j) && not (has left (at l j)))) || u) (le-ltb j (size cap s) (omega arith))
+            (ne-eqb i j (λ z. let y : ⊥ = omega (arith, i-below) in y))
             ∙ sym (ap (λ (t : Bool). t && (has row (at l j) && not (has left′ (at l j)))) (le-ltb j (size cap s) (omega arith)))
 
     pub packing-end : (out left : ℕ) → Packing out left → left ≡ 0 → Packed cap row s out
@@ -205,7 +208,8 @@ module _ (cap s : ℕ) where
     pub filling-start : (out : List ℕ) → length out ≡ cap → Filling out s 0
     filling-start out e = record { long = e; turned = turned-start; is = λ x j b. absurd (let z : ⊥ = omega arith in z) }
 
-    pub filling-next : (out : List ℕ) (left i w left′ r : ℕ) → Filling out left i → IsLowest cap left w → IsWithout left w left′ → Packed cap (getD rows w 0) s r
+    pub filling-next : (out : List ℕ) (left i w left′ r : ℕ) → Filling out left i → IsLowest cap left w → IsWithout left w left′
+        → Packed cap (getD rows w 0) s r
         → i < length out → Filling (set out i r) left′ (i + 1)
     filling-next out left i w left′ r k low out-w p room = record {
       long = length-set out i r ∙ k .long;

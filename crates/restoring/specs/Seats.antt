@@ -5,8 +5,8 @@
 --   Clear a b                  : the sets a and b have no member in common
 --   Taken cap s c              : the first of c, one for each member of s, are group numbers
 --   Spread cap s c many h      : h has `many` groups, and each member of s in the group that c has at its place
---   Seat rows v u group sets many r : r is the group that v is put into, where u was noted with it: u's, or, where v was noted with itself, the lowest of
---                                `many` groups that has nobody who clashes with v, or a new one
+--   Seat rows v u group sets many r : r is the group that v is put into, where u was noted with it: u's, or, where v was noted with itself, the
+--                                lowest of `many` groups that has nobody who clashes with v, or a new one
 --   Returning cap rows who other gone h : those who went may be put back into h: each was removed by a rule, who stayed is in h without a clash, and
 --                                there is room for as many new groups
 --   Returned cap rows who other gone h r : r is h with all put back, the last first

@@ -142,7 +142,8 @@ fn more(many: usize, j: usize) -> usize
     many
 }
 
-// Who went is put back, the last first: into the noted entry's group, or, where it was noted with itself, into the lowest group that admits it or a new one.
+// Who went is put back, the last first: into the noted entry's group, or, where it was noted with itself, into the lowest group that admits it or a
+// new one.
 pub fn put_back(rows: &[u64], s: Shrunk, seats: Seats) -> Seats
     requires { ⌜ Returning 64 (now rows) (s .who) (s .other) (s .gone) seats ⌝ }
     ensures { λ r. ⌜ Returned 64 (now (rows .entry)) (s .who) (s .other) (s .gone) seats r ⌝ }

@@ -1,21 +1,19 @@
 -- Who is absent does not count: where two seatings agree on who is present, so they do when the others are put back. Assumes nothing.
 use mathlib.Core.Path.{_≡_, refl, sym, ap, ap₂, _∙_}
-use mathlib.Core.Logic.{_≢_}
 use mathlib.Core.Bool.{Bool, true, false, not, _&&_}
 use mathlib.Core.List.{List, [], _∷_}
-use mathlib.Core.Option.{Option}
 use Prim.Native.Nat.{ℕ, zero, suc, _≤_, _<_, max}
 use native.Mathlib.Decide.{ℕ-discrete}
 use native.Mathlib.Omega.{arith}
 use lib.Dec.{T, eqb}
 use lib.ListN.{length}
 use lib.Seq.{getD-set-same, getD-set-other}
-use Rattle.sets.specs.Lists.{all, table, first, members, lowest}
+use Rattle.sets.specs.Lists.{all, table, first, lowest}
 use Rattle.sets.proofs.MemberLaws.{members-agree}
 use Rattle.clashes.specs.Labels.{number}
 use Rattle.clashes.specs.Matrix.{Valid}
 use Rattle.clashes.specs.Divisions.{at, division}
-use Rattle.shrink.specs.Rules.{Removal, covered, few, entry, without, orElse, left, everyone}
+use Rattle.shrink.specs.Rules.{Removal, covered, few, entry, without, orElse, left}
 use Rattle.shrink.specs.Back.{Seating, into, admits, home, put, back}
 use Rattle.shrink.specs.Steps.{Allowed, Steps, Fits}
 use Rattle.shrink.proofs.RuleLaws.{without-in}
@@ -27,7 +25,8 @@ all-agree (suc n) p q h = ap₂ (λ (a b : Bool). a && b) (all-agree n p q (λ i
 
 pub table-agree : {A : Type 0} (n : ℕ) (f g : ℕ → A) → ((i : ℕ) → i < n → f i ≡ g i) → table f n ≡ table g n
 table-agree zero f g h = refl
-table-agree (suc n) f g h = ap₂ (λ x l. x ∷ l) (h zero (omega arith)) (table-agree n (λ i. f (suc i)) (λ i. g (suc i)) (λ i b. h (suc i) (omega arith)))
+table-agree (suc n) f g h =
+    ap₂ (λ x l. x ∷ l) (h zero (omega arith)) (table-agree n (λ i. f (suc i)) (λ i. g (suc i)) (λ i b. h (suc i) (omega arith)))
 
 -- labels that are equal below n have one division
 pub division-agree : (n : ℕ) (f g : ℕ → ℕ) → ((i : ℕ) → i < n → f i ≡ g i) → division ℕ-discrete n f ≡ division ℕ-discrete n g
@@ -57,7 +56,8 @@ module _ (n : ℕ) (clash : ℕ → ℕ → Bool) where
 
     home-alike : (v : ℕ) → home n clash p s v ≡ home n clash p t v
     home-alike v =
-        ap (λ (l : List ℕ). orElse (s .many) (first l)) (members-agree (s .many) (admits n clash p s v) (admits n clash p t v) (λ j b. admits-alike v j))
+        ap (λ (l : List ℕ). orElse (s .many) (first l)) (members-agree (s .many) (admits n clash p s v) (admits n clash p t v)
+        (λ j b. admits-alike v j))
         ∙ ap (λ (m : ℕ). orElse m (lowest (admits n clash p t v) m)) (a .many)
 
   -- somebody who is in the same group of both

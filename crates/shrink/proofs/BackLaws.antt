@@ -101,7 +101,8 @@ module _ (n : ℕ) (clash : ℕ → ℕ → Bool) where
             (eqb→eq (at (s .group) x) j (and-r (clash v x) (eqb (at (s .group) x) j) r))
             (In-map (at (s .group)) (members (λ w. p w && clash v w) n) x
             (members-In (λ w. p w && clash v w) n x (i .1)
-            (and-t (p x) (clash v x) (in-without v p x (and-l (q x) (clash v x && eqb (at (s .group) x) j) (i .2))) (and-l (clash v x) (eqb (at (s .group) x) j) r))))
+            (and-t (p x) (clash v x) (in-without v p x (and-l (q x) (clash v x && eqb (at (s .group) x) j) (i .2)))
+            (and-l (clash v x) (eqb (at (s .group) x) j) r))))
         go (no h) = absurd (t (all-make n (λ x. not (foe j x)) (λ x b. not-T (foe j x) (λ z. h (any-make n (foe j) x b z)))))
 
     home-is : Home (home n clash q s v)
@@ -158,7 +159,8 @@ module _ (n : ℕ) (clash : ℕ → ℕ → Bool) where
         go true = omega arith
         go false = omega arith
 
-    pub back-fits : (p : ℕ → Bool) (rs : List Removal) → Steps L n clash p rs → (s : Seating) → Fits n clash (left p rs) s → Fits n clash p (back n clash p rs s)
+    pub back-fits : (p : ℕ → Bool) (rs : List Removal) → Steps L n clash p rs → (s : Seating) → Fits n clash (left p rs) s
+        → Fits n clash p (back n clash p rs s)
     unfolding back
     back-fits p [] g s f = f
     back-fits p (r ∷ rs) g s f =
@@ -218,7 +220,8 @@ module _ (n : ℕ) (clash : ℕ → ℕ → Bool) where
       apart = λ x y a b h k u z.
           let i = members-In p n x a h in
           let j = members-In p n y b k in
-          free-proper (length l) (among l clash) c t (place ℕ-discrete x l) (place ℕ-discrete y l) (place-in ℕ-discrete x l i) (place-in ℕ-discrete y l j)
+          free-proper (length l) (among l clash) c t (place ℕ-discrete x l) (place ℕ-discrete y l) (place-in ℕ-discrete x l i)
+          (place-in ℕ-discrete y l j)
           (subst₂ (λ (v w : ℕ). T (clash v w)) (sym (place-at ℕ-discrete x 0 l i)) (sym (place-at ℕ-discrete y 0 l j)) u)
           (sym (spread-at x a) ∙ z ∙ spread-at y b);
     }

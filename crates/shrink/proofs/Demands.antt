@@ -52,7 +52,8 @@ module _ (L n : ℕ) (clash : ℕ → ℕ → Bool) where
       pub whole-free : T (clashFree n clash (whole L n clash c))
       whole-free = laws.full-free L n clash valid (gone L n clash) steps c d free
 
-      module _ (least : (k : ℕ) → Chromatic n clash k → L ≤ k) (k : ℕ) (C : Chromatic (shrunkSize L n clash) (shrunkClash L n clash) k) (many : groups 0 c ≡ k) where
+      module _ (least : (k : ℕ) → Chromatic n clash k → L ≤ k) (k : ℕ) (C : Chromatic (shrunkSize L n clash) (shrunkClash L n clash) k)
+          (many : groups 0 c ≡ k) where
         pub whole-many : groups 0 (whole L n clash c) ≡ fewest L (gone L n clash) k
         whole-many = laws.full-many L n clash valid (gone L n clash) steps c d free least k C many
 
@@ -101,7 +102,8 @@ module _ (bound : ℕ → Graph → ℕ) (B : IsBound bound) (n : ℕ) (clash : 
         arith,
         shrunk-many,
         least (size (shrunkWalk bound n clash)) shrunk-chromatic,
-        laws.shrunk-le L n clash valid (gone L n clash) (steps L n clash valid) (size (shrunkOf bound n clash)) (size (shrunkWalk bound n clash)) of-chromatic shrunk-chromatic,
+        laws.shrunk-le L n clash valid (gone L n clash) (steps L n clash valid) (size (shrunkOf bound n clash))
+            (size (shrunkWalk bound n clash)) of-chromatic shrunk-chromatic,
         few-most n clash L valid (gone L n clash) (size (shrunkOf bound n clash)),
       )
 

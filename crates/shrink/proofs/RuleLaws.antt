@@ -37,8 +37,8 @@ left-more p [] r = refl
 left-more p (x ∷ rs) r = left-more (without (entry x) p) rs r
 
 module _ (L n : ℕ) (clash : ℕ → ℕ → Bool) where
-  -- "Each time the lowest entry that meets the first rule goes", with the lowest such other; "where none does, the lowest that meets the second; until
-  -- neither applies"
+  -- "Each time the lowest entry that meets the first rule goes", with the lowest such other; "where none does, the lowest that meets the second;
+  -- until neither applies"
   abbrev pub Next : (ℕ → Bool) → Option Removal → Type 0
   Next p (some (covered v u)) = LowestRow (λ x. T (isCovered n clash p x)) n v × LowestRow (λ x. T (covers n clash p v x)) n u
   Next p (some (few v)) = NoRow (λ x. T (isCovered n clash p x)) n × LowestRow (λ x. T (hasFew n clash p L x)) n v
@@ -66,18 +66,22 @@ module _ (L n : ℕ) (clash : ℕ → ℕ → Bool) where
         }
 
     pub next-is : Next p (next n clash p L)
-    next-is = go (lowest (isCovered n clash p) n) (lowest (hasFew n clash p L) n) (lowest-cases (isCovered n clash p) n) (lowest-cases (hasFew n clash p L) n)
+    next-is =
+        go (lowest (isCovered n clash p) n) (lowest (hasFew n clash p L) n) (lowest-cases (isCovered n clash p) n)
+        (lowest-cases (hasFew n clash p L) n)
       where
         low : (t : ℕ → Bool) (v : ℕ) → IsLeast t n v → LowestRow (λ x. T (t x)) n v
         low t v l = record { below = l .below; here = l .passes; before = l .least }
 
-        cover : (v : ℕ) → T (isCovered n clash p v) → (o : Option ℕ) → Lowest (covers n clash p v) n o → LowestRow (λ x. T (covers n clash p v x)) n (orElse v o)
+        cover : (v : ℕ) → T (isCovered n clash p v) → (o : Option ℕ) → Lowest (covers n clash p v) n o
+            → LowestRow (λ x. T (covers n clash p v x)) n (orElse v o)
         cover v t o (found u l) = low (covers n clash p v) u l
         cover v t o (nowhere f) =
             let i = any-get n (covers n clash p v) (and-r (p v) (any n (covers n clash p v)) t) in absurd (f (i .0) (i .1) (i .2))
 
         go : (o q : Option ℕ) → Lowest (isCovered n clash p) n o → Lowest (hasFew n clash p L) n q → Next p (choose n clash p o q)
-        go o q (found v l) h = (low (isCovered n clash p) v l, cover v (l .passes) (lowest (covers n clash p v) n) (lowest-cases (covers n clash p v) n))
+        go o q (found v l) h =
+            (low (isCovered n clash p) v l, cover v (l .passes) (lowest (covers n clash p v) n) (lowest-cases (covers n clash p v) n))
         go o q (nowhere f) (found v l) = (f, low (hasFew n clash p L) v l)
         go o q (nowhere f) (nowhere g) = (f, g)
 
@@ -113,13 +117,15 @@ module _ (L n : ℕ) (clash : ℕ → ℕ → Bool) where
   removals-steps zero p = tt
   removals-steps (suc m) p = go (next n clash p L) (next-is p) (removals-steps m)
     where
-      go : (o : Option Removal) → Next p o → ((q : ℕ → Bool) → Steps L n clash q (removals L n clash m q)) → Steps L n clash p (onward p o (removals L n clash m))
+      go : (o : Option Removal) → Next p o → ((q : ℕ → Bool) → Steps L n clash q (removals L n clash m q))
+          → Steps L n clash p (onward p o (removals L n clash m))
       go none h r = tt
       go (some x) h r = (next-allowed p x h, r (without (entry x) p))
 
   fewer : (p : ℕ → Bool) (v : ℕ) → v < n → T (p v) → suc (count (without v p) (upto n)) ≡ count p (upto n)
   fewer p v b t =
-      count-out n p (without v p) v b t (λ s. without-other v p v s refl) (λ j q. ap (λ (b : Bool). p j && not b) (ne-eqb v j (λ e. q (sym e))) ∙ and-true (p j))
+      count-out n p (without v p) v b t (λ s. without-other v p v s refl)
+      (λ j q. ap (λ (b : Bool). p j && not b) (ne-eqb v j (λ e. q (sym e))) ∙ and-true (p j))
 
   -- they come to an end: neither rule applies any more
   pub removals-end : (m : ℕ) (p : ℕ → Bool) → count p (upto n) ≤ m → next n clash (left p (removals L n clash m p)) L ≡ none

@@ -14,7 +14,8 @@ use Rattle.clashes.proofs.NumberLaws.{distinct-new, distinct-cases, distinct-no
 module _ {A : Type 0} (same : Discrete A) where
   -- labels that are all in l
   pub cardinality-list : (n : ℕ) (f : ℕ → A) (l : List A) → ((i : ℕ) → i < n → In (f i) l) → cardinality same n f ≤ length l
-  cardinality-list n f l h = noDup-le (distinct same [] (table f n)) l (distinct-noDup same [] (table f n) tt) (λ x i. go x (distinct-cases same [] (table f n) x i))
+  cardinality-list n f l h =
+      noDup-le (distinct same [] (table f n)) l (distinct-noDup same [] (table f n) tt) (λ x i. go x (distinct-cases same [] (table f n) x i))
     where
       go : (x : A) → In x [] ⊎ In x (table f n) → In x l
       go x (inl b) = absurd b

@@ -1,5 +1,5 @@
--- For any removals that the rules allow, in whichever order: a clash-free division of the shrunk list is put back as a clash-free division of the full
--- one; from the shrunk list's chromatic number it has as many groups as the full list's, which is the answer; and the shrunk list has no more
+-- For any removals that the rules allow, in whichever order: a clash-free division of the shrunk list is put back as a clash-free division of the
+-- full one; from the shrunk list's chromatic number it has as many groups as the full list's, which is the answer; and the shrunk list has no more
 -- clash-free divisions than the full one. Assumes nothing but that L is at most the chromatic number of the full list.
 use mathlib.Core.Path.{_≡_, refl, sym, ap, _∙_, subst}
 use mathlib.Core.Logic.{inl, inr}
@@ -183,4 +183,5 @@ module _ (L n : ℕ) (clash : ℕ → ℕ → Bool) (valid : Valid n clash) (rs 
           let t = map-In full small x i in
           let h = is (t .0) (t .1) in
           subst (λ z. In z large) (sym (t .2))
-          (select-In (clashFree n clash) (divisions n) (full (t .0)) (divisions-have n (full (t .0)) (full-division (t .0) (h .0) (h .1))) (full-free (t .0) (h .0) (h .1)))
+          (select-In (clashFree n clash) (divisions n) (full (t .0)) (divisions-have n (full (t .0)) (full-division (t .0) (h .0) (h .1)))
+          (full-free (t .0) (h .0) (h .1)))

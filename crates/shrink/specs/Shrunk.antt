@@ -6,8 +6,8 @@
 --   shrunkClash L n clash    : its clashes
 --   whole L n clash c        : the division of the full list that comes of the division c of the shrunk one
 --   shrunkOf bound n clash   : the bounded walk over the list that is shrunk by the bound of the full one
---   shrunkWalk bound n clash : the same, with all put back: a described walk over the full list as document 01's two are, with a best division, nodes and
---                              complete graphs
+--   shrunkWalk bound n clash : the same, with all put back: a described walk over the full list as document 01's two are, with a best division,
+--                              nodes and complete graphs
 --
 -- Assumes nothing.
 use mathlib.Core.Bool.{Bool, true, false, cond}

@@ -8,9 +8,9 @@ use native.Mathlib.Omega.{arith}
 use types.Run.{OneOf, miss}
 use denote.Enum.Declared.{tagOf}
 use lib.Dec.{T, eqb, ltb, ltb→lt, lt→ltb}
-use lib.ListN.{length, take, drop, getD}
+use lib.ListN.{length, take, drop}
 use lib.Seq.{take-at, drop-at, getD-take, length-take-le}
-use Rattle.sets.specs.Lists.{members, some?}
+use Rattle.sets.specs.Lists.{members}
 use Rattle.sets.specs.Set.{has, size}
 use Rattle.sets.proofs.MemberLaws.{members-count, members-agree, members-narrow}
 use Rattle.clashes.specs.Labels.{place}
@@ -34,8 +34,8 @@ use Rattle.walk.proofs.Answer.{the-type}
 use Rattle.walk.proofs.Answers.{mycielskian-bound}
 use Rattle.shrink.specs.Rules.{Removal, left, everyone, gone, among}
 use Rattle.shrink.specs.Rules as rules
-use Rattle.shrink.specs.Back.{Seating, back, spread}
-use Rattle.shrink.specs.Shrunk.{isFew, fewest, shrunkSize, shrunkClash, whole, shrunkOf, shrunkWalk}
+use Rattle.shrink.specs.Back.{back, spread}
+use Rattle.shrink.specs.Shrunk.{fewest, shrunkSize, shrunkClash, whole, shrunkOf, shrunkWalk}
 use Rattle.shrink.specs.Steps.{Steps, Fits}
 use Rattle.shrink.proofs.RuleLaws.{left-in, removals-steps}
 use Rattle.shrink.proofs.BackLaws.{back-fits, spread-at, spread-fits}
@@ -136,7 +136,8 @@ module _ (most : ℕ) (rows : List ℕ) (sound : SoundUpTo most rows) (s : Shrun
 
       -- ---- refused
 
-      pub shrunk-refused : m ≤ length inner → (a : Answer) → OneOf (1 ∷ 2 ∷ 3 ∷ 4 ∷ 5 ∷ 6 ∷ []) (tagOf the-type a) → PromisedUpTo most (boundedWalk mycielskian) lent inner budget a inner′
+      pub shrunk-refused : m ≤ length inner → (a : Answer) → OneOf (1 ∷ 2 ∷ 3 ∷ 4 ∷ 5 ∷ 6 ∷ []) (tagOf the-type a)
+          → PromisedUpTo most (boundedWalk mycielskian) lent inner budget a inner′
           → PromisedUpTo most (shrunkWalk mycielskian) rows before budget a before
       shrunk-refused b (Accepted k c l q) f p = absurd (miss (1 ∷ 2 ∷ 3 ∷ 4 ∷ 5 ∷ 6 ∷ []) 0 tt f)
       shrunk-refused b Many f p = absurd (let z : ⊥ = omega (arith, p .0, small-sound .apart .inside .few) in z)
@@ -205,7 +206,8 @@ module _ (most : ℕ) (rows : List ℕ) (sound : SoundUpTo most rows) (s : Shrun
           }
 
           seats-ok : Fits n clash (left (everyone n) rs) (seatingOf seats)
-          seats-ok = alike-fits n clash (left (everyone n) rs) (spread n l best) (seatingOf seats) seats-alike (omega (arith, h .long-group, few)) spread-ok
+          seats-ok =
+              alike-fits n clash (left (everyone n) rs) (spread n l best) (seatingOf seats) seats-alike (omega (arith, h .long-group, few)) spread-ok
 
           pub returning : Returning most rows (s .who) (s .other) (s .gone) seats
           returning = record {
@@ -241,17 +243,21 @@ module _ (most : ℕ) (rows : List ℕ) (sound : SoundUpTo most rows) (s : Shrun
             numbered : division ℕ-discrete n (at (full .group)) ≡ shrunkWalk mycielskian n clash .best
             unfolding l
             numbered =
-                division-agree n (at (full .group)) (at (back n clash (everyone n) rs (spread n l best) .group)) (λ i c. sym (full-alike .group i c (lt→ltb i n c)))
-                ∙ ap (λ (x : List Removal). division ℕ-discrete n (at (back n clash (everyone n) x (spread n (members (left (everyone n) x) n) best) .group))) (w .went)
+                division-agree n (at (full .group)) (at (back n clash (everyone n) rs (spread n l best) .group))
+                (λ i c. sym (full-alike .group i c (lt→ltb i n c)))
+                ∙ ap (λ (x : List Removal). division ℕ-discrete n
+                (at (back n clash (everyone n) x (spread n (members (left (everyone n) x) n) best) .group))) (w .went)
                 ∙ ap (whole L n clash) best-is
 
             pub shrunk-accepts : (j q : ℕ) → j ≡ cond (s .few) (max L k) k → q ≡ ofList cliqueSet rows
-                → PromisedUpTo most (shrunkWalk mycielskian) rows before budget (Accepted j nodes leaves q) (division ℕ-discrete n (at (full .group)) ++ drop n before)
+                → PromisedUpTo most (shrunkWalk mycielskian) rows before budget (Accepted j nodes leaves q)
+                (division ℕ-discrete n (at (full .group)) ++ drop n before)
             shrunk-accepts j q e shown = record {
               opened = opened;
               fewest = subst (Chromatic n clash) k-is (demands.shrunk-chromatic mycielskian mycielskian-bound n clash valid least);
               division = subst (Division n) (sym taken) (demands.shrunk-division mycielskian mycielskian-bound n clash valid least);
-              free = subst (λ (x : List ℕ). T (clashFree n clash x)) (sym taken) (demands.shrunk-free mycielskian mycielskian-bound n clash valid least);
+              free = subst (λ (x : List ℕ). T (clashFree n clash x)) (sym taken)
+                  (demands.shrunk-free mycielskian mycielskian-bound n clash valid least);
               many = ap (groups 0) taken ∙ k-is;
               best = taken;
               count = p .count ∙ ap (λ (d : State). d .nodes) small-walk;

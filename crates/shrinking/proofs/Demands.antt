@@ -1,8 +1,9 @@
--- THE DEMANDS, for the call that shrinks first: what follows from its promise `PromisedUpTo most (shrunkWalk mycielskian) rows before budget a after` (crate
--- walk, specs/Promise.antt), for every list of up to `most` entries, buffer and budget. The contract of `fewest_shrunk` names it at 64.
+-- THE DEMANDS, for the call that shrinks first: what follows from its promise `PromisedUpTo most (shrunkWalk mycielskian) rows before budget a
+-- after` (crate walk, specs/Promise.antt), for every list of up to `most` entries, buffer and budget. The contract of `fewest_shrunk` names it at
+-- 64.
 --
--- The promise is the walks' own, of another described walk (crate shrink, specs/Shrunk.antt), so whatever crates/walk/proofs/Demands.antt says of any walk
--- holds of it: it is cited here under the names that it has there. P is `freeDivisions`. Assumes nothing.
+-- The promise is the walks' own, of another described walk (crate shrink, specs/Shrunk.antt), so whatever crates/walk/proofs/Demands.antt says of
+-- any walk holds of it: it is cited here under the names that it has there. P is `freeDivisions`. Assumes nothing.
 use mathlib.Core.Path.{_≡_, sym, ap, _∙_}
 use mathlib.Core.List.{List}
 use Prim.Native.Nat.{ℕ, suc, _*_, _≤_, max}
@@ -42,7 +43,8 @@ module _ (most : ℕ) (rows before : List ℕ) (budget : ℕ) where
   -- The nodes of a valid list's walk are at most 2 P - 1, P of the full list.
   counted : SoundUpTo most rows → suc (shrunkWalk mycielskian (length rows) (matrix rows) .nodes) ≤ 2 * freeDivisions (length rows) (matrix rows)
   counted s =
-      let v = sound-valid rows s in laws.shrunk-count mycielskian mycielskian-bound (length rows) (matrix rows) v (mycielskian-chromatic (length rows) (matrix rows) v)
+      let v = sound-valid rows s in
+      laws.shrunk-count mycielskian mycielskian-bound (length rows) (matrix rows) v (mycielskian-chromatic (length rows) (matrix rows) v)
 
   module _ (k m l c : ℕ) (after : List ℕ) (p : PromisedUpTo most (shrunkWalk mycielskian) rows before budget (Accepted k m l c) after) where
     abbrev n : ℕ
@@ -51,8 +53,8 @@ module _ (most : ℕ) (rows before : List ℕ) (budget : ℕ) where
     valid : Valid n (matrix rows)
     valid = sound-valid rows (p .opened .sound)
 
-    -- "Demand 2 holds for the full list": k is its chromatic number; the first n bytes are a division of its entries into k groups, numbered by smallest
-    -- member; no two entries that clash are in one.
+    -- "Demand 2 holds for the full list": k is its chromatic number; the first n bytes are a division of its entries into k groups, numbered by
+    -- smallest member; no two entries that clash are in one.
     pub is-chromatic : Chromatic n (matrix rows) k
     is-chromatic = any.is-chromatic most (shrunkWalk mycielskian) rows before budget k m l c after p
 
@@ -63,7 +65,8 @@ module _ (most : ℕ) (rows before : List ℕ) (budget : ℕ) where
     no-clash = any.no-clash most (shrunkWalk mycielskian) rows before budget k m l c after p
 
     -- "The answer is the larger of L and the shrunk k where the second rule was used, else the shrunk k"
-    pub answer-is : k ≡ fewest (ofList mycielskian rows) (gone (ofList mycielskian rows) n (matrix rows)) (walks.size (shrunkOf mycielskian n (matrix rows)))
+    pub answer-is : k ≡ fewest (ofList mycielskian rows) (gone (ofList mycielskian rows) n (matrix rows))
+        (walks.size (shrunkOf mycielskian n (matrix rows)))
     answer-is =
         sym (p .many) ∙ ap (groups 0) (p .best)
         ∙ laws.shrunk-many mycielskian mycielskian-bound n (matrix rows) valid (mycielskian-chromatic n (matrix rows) valid)
@@ -83,7 +86,8 @@ module _ (most : ℕ) (rows before : List ℕ) (budget : ℕ) where
     clique-shown = any.clique-shown most (shrunkWalk mycielskian) rows before budget k m l c after p
 
   -- So a budget of 2 P - 1 or more is never refused.
-  pub shrunk-ample : (a : Answer) (after : List ℕ) → PromisedUpTo most (shrunkWalk mycielskian) rows before budget a after → OpenUpTo most rows (length before)
+  pub shrunk-ample : (a : Answer) (after : List ℕ) → PromisedUpTo most (shrunkWalk mycielskian) rows before budget a after
+      → OpenUpTo most rows (length before)
       → 2 * freeDivisions (length rows) (matrix rows) ≤ suc budget → (k m l c : ℕ) × (a ≡ Accepted k m l c)
   shrunk-ample a after p room b =
       (_, _, _, _, any.accepted-within most (shrunkWalk mycielskian) rows before budget a after p room (omega (arith, counted (room .sound))))

@@ -13,7 +13,8 @@ use Rattle.graphs.specs.Graph.{Graph}
 use Rattle.zykov.specs.Walk.{boundedWalk}
 use Rattle.shrink.proofs.Agree.{walk-agree}
 
-module _ (n : ℕ) (clash : ℕ → ℕ → Bool) (rows : List ℕ) (long : length rows ≡ n) (is : (x y : ℕ) → x < n → matrix rows x y ≡ (ltb y n && clash x y)) where
+module _ (n : ℕ) (clash : ℕ → ℕ → Bool) (rows : List ℕ) (long : length rows ≡ n)
+    (is : (x y : ℕ) → x < n → matrix rows x y ≡ (ltb y n && clash x y)) where
   low : (i : ℕ) → i < length rows → i < n
   low i b = omega (arith, long)
 
@@ -31,7 +32,8 @@ module _ (n : ℕ) (clash : ℕ → ℕ → Bool) (rows : List ℕ) (long : leng
     };
     no-one-sided = λ i b h.
         let c = row-clash i (h .0) (low i b) (h .2) in
-        h .3 (subst T (sym (is (h .0) i (c .0))) (and-t (ltb i n) (clash (h .0) i) (lt→ltb i n (low i b)) (v .both-ways i (h .0) (low i b) (c .0) (c .1))));
+        h .3 (subst T (sym (is (h .0) i (c .0))) (and-t (ltb i n) (clash (h .0) i) (lt→ltb i n (low i b))
+        (v .both-ways i (h .0) (low i b) (c .0) (c .1))));
   }
 
   pub rows-walk : (bound : ℕ → Graph → ℕ) → boundedWalk bound (length rows) (matrix rows) ≡ boundedWalk bound n clash

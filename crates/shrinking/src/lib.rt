@@ -51,8 +51,8 @@ fn walk_shrunk(rows: &[u64], bound: usize, colours: &mut [u8], budget: u64) -> A
     Answer::Accepted(larger(s.few, bound, k), nodes, leaves, clique_of(rows))
 }
 
-// The fewest sittings of a lent clash list that is shrunk first: k, the nodes of the walk over the shrunk list and the full list's clique, and each entry's
-// sitting in the lent bytes.
+// The fewest sittings of a lent clash list that is shrunk first: k, the nodes of the walk over the shrunk list and the full list's clique, and each
+// entry's sitting in the lent bytes.
 pub fn fewest_shrunk(rows: &[u64], colours: &mut [u8], budget: u64) -> Answer
     ensures { λ r. ⌜ Promised (shrunkWalk mycielskian) (now (rows .entry)) (now (colours .entry)) budget r (now (colours .exit)) ⌝ }
 {

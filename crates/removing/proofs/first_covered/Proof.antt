@@ -1,9 +1,9 @@
 -- `removing::first_covered` meets its contract: nobody who was looked at is covered, or one was found. Assumes nothing.
-use mathlib.Core.Path.{_≡_, refl, sym, ap, _∙_, subst}
+use mathlib.Core.Path.{refl, ap, subst}
 use mathlib.Core.Bool.{Bool}
 use mathlib.Core.List.{List}
 use mathlib.Core.Option.{Option, none, some}
-use Prim.Native.Nat.{ℕ, _≤_, _<_}
+use Prim.Native.Nat.{ℕ}
 use native.Mathlib.Omega.{arith}
 use borrow.Author.Needs.{needs}
 use lib.Dec.{T}
@@ -89,12 +89,15 @@ loop-again c =
     let others = c .before .before .sharing in
     let v = low .result in
     let here = l .inv .within v (low .ensures .member) .1 in
-    looked-found (length (a .rows .now)) (has (a .present)) (test (a .rows .now) (a .present)) (pick (a .rows .now) (a .present)) 64 (l .left) v (l .found) (l .inv)
+    looked-found (length (a .rows .now)) (has (a .present)) (test (a .rows .now) (a .present)) (pick (a .rows .now) (a .present)) 64 (l .left) v
+    (l .found) (l .inv)
     (low .ensures) _ _
-    (covered-some (a .rows .now) (a .present) (s .pre) v (met .result) (out .result) (cut .result) (others .result) here (met .ensures) (out .ensures) (cut .ensures) (others .ensures) 64
+    (covered-some (a .rows .now) (a .present) (s .pre) v (met .result) (out .result) (cut .result) (others .result) here (met .ensures)
+    (out .ensures) (cut .ensures) (others .ensures) 64
     (c .lowest2 .result) (c .lowest2 .ensures))
     refl
-    (ap some (covered-noted (a .rows .now) (a .present) (s .pre) v (met .result) (out .result) (cut .result) (others .result) here (met .ensures) (out .ensures) (cut .ensures) (others .ensures) 64
+    (ap some (covered-noted (a .rows .now) (a .present) (s .pre) v (met .result) (out .result) (cut .result) (others .result) here (met .ensures)
+    (out .ensures) (cut .ensures) (others .ensures) 64
     (c .lowest2 .result) (c .lowest2 .ensures)))
     refl
 
@@ -117,16 +120,19 @@ loop-again-2 c =
     let cut = c .before .before .less in
     let others = c .before .sharing in
     let v = low .result in
-    looked-next (length (a .rows .now)) (has (a .present)) (test (a .rows .now) (a .present)) (pick (a .rows .now) (a .present)) 64 (l .left) v (l .found) (l .inv)
+    looked-next (length (a .rows .now)) (has (a .present)) (test (a .rows .now) (a .present)) (pick (a .rows .now) (a .present)) 64 (l .left) v
+    (l .found) (l .inv)
     (low .ensures) (r .result) (r .ensures v (low .ensures))
-    (covered-none (a .rows .now) (a .present) (s .pre) v (met .result) (out .result) (cut .result) (others .result) (l .inv .within v (low .ensures .member) .1) (met .ensures)
+    (covered-none (a .rows .now) (a .present) (s .pre) v (met .result) (out .result) (cut .result) (others .result)
+    (l .inv .within v (low .ensures .member) .1) (met .ensures)
     (out .ensures) (cut .ensures) (others .ensures) (c .if1 .left))
 
 returns : tie.Need-returns Inv-loop μ-loop
 returns c =
     let a = c .before .before .before .args in
     let l = c .before .loop in
-    looked-end (length (a .rows .now)) (has (a .present)) (test (a .rows .now) (a .present)) (pick (a .rows .now) (a .present)) (l .left) (l .found) refl (l .inv) (c .loop-test .left)
+    looked-end (length (a .rows .now)) (has (a .present)) (test (a .rows .now) (a .present)) (pick (a .rows .now) (a .present)) (l .left)
+    (l .found) refl (l .inv) (c .loop-test .left)
 
 pub first-covered-spec : {M : Type 1} → statement M
 first-covered-spec =

@@ -1,18 +1,16 @@
 -- `removing::first_few` meets its contract: nobody who was looked at has few clashes, or one was found. Assumes nothing.
-use mathlib.Core.Path.{_≡_, refl, sym, ap, _∙_}
+use mathlib.Core.Path.{refl, ap}
 use mathlib.Core.Bool.{Bool}
 use mathlib.Core.List.{List}
 use mathlib.Core.Option.{Option, none, some}
-use Prim.Native.Nat.{ℕ, _≤_, _<_}
+use Prim.Native.Nat.{ℕ}
 use native.Mathlib.Omega.{arith}
 use borrow.Author.Needs.{needs}
-use lib.Dec.{T}
 use lib.ListN.{length}
 use Rattle.sets.specs.Set.{has, size}
 use Rattle.clashes.specs.Matrix.{matrix}
 use Rattle.graphs.proofs.LoopLaws.{left-falls}
-use Rattle.shrink.specs.Rules.{Removal, few, hasFew, choose}
-use Rattle.removing.specs.declared.Goes.{Goes}
+use Rattle.shrink.specs.Rules.{Removal, hasFew, choose}
 use Rattle.removing.proofs.ShareLaws.{size-nobody}
 use Rattle.removing.proofs.LookLaws.{Looked, looked-start, looked-next, looked-found, looked-end, few-some, few-none, few-here, removal-few}
 use Rattle.removing.proofs.first_few.Statement.{statement}
@@ -35,7 +33,8 @@ loop-holds : tie.Need-loop-holds Inv-loop μ-loop
 loop-holds c =
     let a = c .before .args in
     let g = c .before .pre .1 in
-    looked-start (length (a .rows .now)) (has (a .present)) (test (a .rows .now) (a .present) (a .bound)) (pick (a .rows .now) (a .present)) (a .present) _ refl
+    looked-start (length (a .rows .now)) (has (a .present)) (test (a .rows .now) (a .present) (a .bound)) (pick (a .rows .now) (a .present))
+    (a .present) _ refl
     (λ x t. (g .entries x t, t)) (few-here (a .rows .now) (a .present) g (a .bound))
 
 lowest-requires : tie.Need-lowest-requires Inv-loop μ-loop
@@ -73,9 +72,11 @@ loop-again c =
     let low = c .before .before .before .before .before .lowest in
     let met = c .before .before .meet in
     let v = low .result in
-    looked-found (length (a .rows .now)) (has (a .present)) (test (a .rows .now) (a .present) (a .bound)) (pick (a .rows .now) (a .present)) 64 (l .left) v (l .found) (l .inv)
+    looked-found (length (a .rows .now)) (has (a .present)) (test (a .rows .now) (a .present) (a .bound)) (pick (a .rows .now) (a .present)) 64
+    (l .left) v (l .found) (l .inv)
     (low .ensures) _ _
-    (few-some (a .rows .now) (a .present) (s .pre .1) (a .bound) v (met .result) (l .inv .within v (low .ensures .member) .1) (met .ensures) 64 (s .pre .0)
+    (few-some (a .rows .now) (a .present) (s .pre .1) (a .bound) v (met .result) (l .inv .within v (low .ensures .member) .1) (met .ensures) 64
+    (s .pre .0)
     (omega (arith, c .before .size .ensures, c .if1 .taken)))
     refl (ap some (removal-few v)) refl
 
@@ -95,16 +96,19 @@ loop-again-2 c =
     let r = c .before .before .before .before .rest in
     let met = c .before .before .meet in
     let v = low .result in
-    looked-next (length (a .rows .now)) (has (a .present)) (test (a .rows .now) (a .present) (a .bound)) (pick (a .rows .now) (a .present)) 64 (l .left) v (l .found) (l .inv)
+    looked-next (length (a .rows .now)) (has (a .present)) (test (a .rows .now) (a .present) (a .bound)) (pick (a .rows .now) (a .present)) 64
+    (l .left) v (l .found) (l .inv)
     (low .ensures) (r .result) (r .ensures v (low .ensures))
-    (few-none (a .rows .now) (a .present) (s .pre .1) (a .bound) v (met .result) (l .inv .within v (low .ensures .member) .1) (met .ensures) 64 (s .pre .0)
+    (few-none (a .rows .now) (a .present) (s .pre .1) (a .bound) v (met .result) (l .inv .within v (low .ensures .member) .1) (met .ensures) 64
+    (s .pre .0)
     (λ h. let z : ⊥ = omega (arith, c .before .size .ensures, c .if1 .left) in z))
 
 returns : tie.Need-returns Inv-loop μ-loop
 returns c =
     let a = c .before .before .before .args in
     let l = c .before .loop in
-    looked-end (length (a .rows .now)) (has (a .present)) (test (a .rows .now) (a .present) (a .bound)) (pick (a .rows .now) (a .present)) (l .left) (l .found) refl (l .inv) (c .loop-test .left)
+    looked-end (length (a .rows .now)) (has (a .present)) (test (a .rows .now) (a .present) (a .bound)) (pick (a .rows .now) (a .present)) (l .left)
+    (l .found) refl (l .inv) (c .loop-test .left)
 
 pub first-few-spec : {M : Type 1} → statement M
 first-few-spec =

@@ -1,14 +1,13 @@
 -- `removing::shrink` meets its contract: who has gone, and then who is still to go, are all who go. Assumes nothing.
-use mathlib.Core.Path.{_≡_, refl, sym, subst}
+use mathlib.Core.Path.{refl, sym, subst}
 use mathlib.Core.Bool.{Bool}
-use Prim.Native.Nat.{ℕ, _≤_, _<_, _+_}
+use Prim.Native.Nat.{_≤_, _<_, _+_}
 use native.Mathlib.Omega.{arith}
 use borrow.Author.Needs.{needs}
 use lib.Dec.{T, ltb→lt}
 use lib.ListN.{length, set}
-use Rattle.sets.specs.Set.{has, size}
+use Rattle.sets.specs.Set.{size}
 use Rattle.clashes.proofs.MatrixLaws.{sound-valid}
-use Rattle.removing.specs.Words.{Listed}
 use Rattle.removing.proofs.ShrinkLaws.{Going, going-start, going-next, going-less, going-end, who-below, other-below, room, without-entries}
 use Rattle.removing.proofs.shrink.Statement.{statement}
 use Rattle.removing.proofs.shrink.Tie as tie
@@ -26,13 +25,17 @@ next-requires : tie.Need-next-requires Inv-loop μ-loop
 next-requires c κs =
     let s = c .before .before in (
       s .pre .apart .inside .few,
-      record { valid = sound-valid (s .args .rows .now) (s .pre); entries = λ x t. ltb→lt x (length (s .args .rows .now)) (subst T (c .below .ensures x) t) },
+      record {
+        valid = sound-valid (s .args .rows .now) (s .pre);
+        entries = λ x t. ltb→lt x (length (s .args .rows .now)) (subst T (c .below .ensures x) t);
+      },
     )
 
 loop-holds : tie.Need-loop-holds Inv-loop μ-loop
 loop-holds c =
     let s = c .before .before .before in
-    going-start 64 (s .args .bound) (s .args .rows .now) (s .pre .apart .inside .few) _ _ (c .before .below .result) (c .next .result) refl refl (c .before .below .ensures) (c .next .ensures)
+    going-start 64 (s .args .bound) (s .args .rows .now) (s .pre .apart .inside .few) _ _ (c .before .below .result) (c .next .result) refl refl
+    (c .before .below .ensures) (c .next .ensures)
 
 -- who goes is an entry, and so is the other that is noted; there is a place for both
 entries : (c : tie.In-loop Inv-loop μ-loop)
@@ -43,8 +46,10 @@ entries c =
     let s = c .before .before .before .before .before in
     let few = s .pre .apart .inside .few in
     let l = c .before .loop in (
-      who-below 64 (s .args .bound) (s .args .rows .now) few (l .who) (l .other) (l .few) (l .gone) (l .present) (l .goes) (l .inv) (c .loop-test .taken),
-      other-below 64 (s .args .bound) (s .args .rows .now) few (l .who) (l .other) (l .few) (l .gone) (l .present) (l .goes) (l .inv) (c .loop-test .taken),
+      who-below 64 (s .args .bound) (s .args .rows .now) few (l .who) (l .other) (l .few) (l .gone) (l .present) (l .goes) (l .inv)
+          (c .loop-test .taken),
+      other-below 64 (s .args .bound) (s .args .rows .now) few (l .who) (l .other) (l .few) (l .gone) (l .present) (l .goes) (l .inv)
+          (c .loop-test .taken),
       room 64 (s .args .bound) (s .args .rows .now) few (l .who) (l .other) (l .few) (l .gone) (l .present) (l .goes) (l .inv) (c .loop-test .taken),
       few,
     )
@@ -77,7 +82,8 @@ next-requires-2 c κs =
       s .pre .apart .inside .few,
       record {
         valid = sound-valid (s .args .rows .now) (s .pre);
-        entries = without-entries (length (s .args .rows .now)) (l .present) (l .goes .who) (c .without .result) (l .inv .entries) (c .without .ensures);
+        entries = without-entries (length (s .args .rows .now)) (l .present) (l .goes .who) (c .without .result) (l .inv .entries)
+            (c .without .ensures);
       },
     )
 
@@ -86,7 +92,8 @@ loop-less c =
     let s = c .before .before .before .before .before .before .before .before in
     let l = c .before .before .before .before .loop in
     let out = c .before .without in
-    going-less 64 (s .args .bound) (s .args .rows .now) (s .pre .apart .inside .few) (l .who) (l .other) (l .few) (l .gone) (l .present) (l .goes) (l .inv)
+    going-less 64 (s .args .bound) (s .args .rows .now) (s .pre .apart .inside .few) (l .who) (l .other) (l .few) (l .gone) (l .present) (l .goes)
+    (l .inv)
     (c .before .before .before .loop-test .taken) (out .result) (out .ensures)
 
 loop-again : tie.Need-loop-again Inv-loop μ-loop
@@ -96,16 +103,19 @@ loop-again c =
     let out = c .before .without in
     let used = c .before .before .second in
     subst
-    (λ (b : Bool). Going 64 (s .args .bound) (s .args .rows .now) (set (l .who) (l .gone) (l .goes .who)) (set (l .other) (l .gone) (l .goes .other)) b (l .gone + 1) (out .result) (c .next2 .result))
+    (λ (b : Bool). Going 64 (s .args .bound) (s .args .rows .now) (set (l .who) (l .gone) (l .goes .who))
+    (set (l .other) (l .gone) (l .goes .other)) b (l .gone + 1) (out .result) (c .next2 .result))
     (sym (used .ensures))
-    (going-next 64 (s .args .bound) (s .args .rows .now) (s .pre .apart .inside .few) (l .who) (l .other) (l .few) (l .gone) (l .present) (l .goes) (l .inv)
+    (going-next 64 (s .args .bound) (s .args .rows .now) (s .pre .apart .inside .few) (l .who) (l .other) (l .few) (l .gone) (l .present) (l .goes)
+    (l .inv)
     (c .before .before .before .loop-test .taken) (out .result) (c .next2 .result) (out .ensures) (c .next2 .ensures))
 
 returns : tie.Need-returns Inv-loop μ-loop
 returns c =
     let s = c .before .before .before .before .before in
     let l = c .before .loop in
-    going-end 64 (s .args .bound) (s .args .rows .now) (s .pre .apart .inside .few) (l .who) (l .other) (l .few) (l .gone) (l .present) (l .goes) (l .inv) (c .loop-test .left)
+    going-end 64 (s .args .bound) (s .args .rows .now) (s .pre .apart .inside .few) (l .who) (l .other) (l .few) (l .gone) (l .present) (l .goes)
+    (l .inv) (c .loop-test .left)
 
 pub shrink-spec : {M : Type 1} → statement M
 shrink-spec =

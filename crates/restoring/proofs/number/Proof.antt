@@ -1,17 +1,13 @@
 -- `restoring::number` meets its contract: the bytes below i are the groups of the entries below i, and next is how many they are. Assumes nothing.
-use mathlib.Core.Path.{_≡_, refl, sym, ap, _∙_, subst₂}
+use mathlib.Core.Path.{_≡_, sym, ap, _∙_, subst₂}
 use mathlib.Core.Logic.{⊎-elim}
 use mathlib.Core.List.{List, _++_}
 use Prim.Native.Nat.{ℕ, _+_, _≤_, _<_, _-_}
 use native.Mathlib.Omega.{arith}
 use native.Mathlib.Decide.{ℕ-discrete}
 use borrow.Author.Needs.{needs}
-use lib.Dec.{T, ltb, eqb, lt→ltb}
-use lib.ListN.{length, getD, drop, length-append, length-drop}
-use Rattle.sets.specs.Set.{has}
-use Rattle.sets.proofs.TestLaws.{and-t, eqb-of}
+use lib.ListN.{length, getD, drop}
 use Rattle.clashes.specs.Divisions.{at, division}
-use Rattle.clashes.proofs.DivisionLaws.{division-length}
 use Rattle.removing.proofs.ShareLaws.{nobody}
 use Rattle.restoring.proofs.SeatLaws.{Numbering, numbering-start, numbering-opens, numbering-joins, numbering-long, smallest, own-group}
 use Rattle.restoring.proofs.number.Statement.{statement}
@@ -30,7 +26,8 @@ loop-holds c = (search needs, numbering-start _ _)
 known : (c : tie.In-loop Inv-loop μ-loop)
     → let s = c .before .before .before .before .before in
     let i = c .before .loop .i in
-    (i < 64) × (getD (s .args .seats .group) i 0 < 64) × (i < length (s .args .colours .now)) × (length (c .before .loop .colours) ≡ length (s .args .colours .now))
+    (i < 64) × (getD (s .args .seats .group) i 0 < 64) × (i < length (s .args .colours .now))
+    × (length (c .before .loop .colours) ≡ length (s .args .colours .now))
 known c =
     let s = c .before .before .before .before .before in
     let l = c .before .loop in
@@ -57,7 +54,8 @@ array-read-lowest c = known c .1
 lowest-requires : tie.Need-lowest-requires Inv-loop μ-loop
 lowest-requires c κs e =
     let s = c .before .before .before .before .before in
-    nobody _ (c .before .loop .i) e (own-group 64 (s .args .n) (s .args .seats .group) (s .args .seats .sets) (s .pre .sets) (c .before .loop .i) (c .loop-test .taken) (known c .1))
+    nobody _ (c .before .loop .i) e (own-group 64 (s .args .n) (s .args .seats .group) (s .args .seats .sets) (s .pre .sets) (c .before .loop .i)
+    (c .loop-test .taken) (known c .1))
 
 slice-write-colours : tie.Need-slice-write-colours Inv-loop μ-loop
 slice-write-colours c = let k = known (c .before .before) in omega arith
@@ -72,7 +70,11 @@ slice-read-colour c =
     let l = c .before .before .before .before .loop in
     let low = c .before .before .lowest in
     let k = known (c .before .before .before) in
-    omega (arith, smallest 64 (s .args .n) (s .args .seats .group) (s .args .seats .sets) (s .pre .sets) (l .i) (low .result) (c .before .before .before .loop-test .taken) (k .1) (low .ensures))
+    omega (
+      arith,
+      smallest 64 (s .args .n) (s .args .seats .group) (s .args .seats .sets) (s .pre .sets) (l .i) (low .result)
+          (c .before .before .before .loop-test .taken) (k .1) (low .ensures),
+    )
 
 slice-write-colours-2 : tie.Need-slice-write-colours-2 Inv-loop μ-loop
 slice-write-colours-2 c = let k = known (c .before .before .before) in omega arith
@@ -94,11 +96,13 @@ loop-again c =
       ⊎-elim
           (λ w.
           subst₂ (λ (o : List ℕ) (m : ℕ). Numbering (s .args .seats .group) (s .args .colours .now) o m (l .i + 1)) (sym (w .1)) (sym (w .2))
-          (numbering-opens 64 (s .args .n) (s .args .seats .group) (s .args .seats .sets) (s .pre .sets) (s .args .colours .now) (l .colours) (l .next) (l .i) (low .result) (l .inv .1) t
+          (numbering-opens 64 (s .args .n) (s .args .seats .group) (s .args .seats .sets) (s .pre .sets) (s .args .colours .now) (l .colours)
+          (l .next) (l .i) (low .result) (l .inv .1) t
           (k .2) (k .1) (low .ensures) (w .0 .taken)))
           (λ w.
           subst₂ (λ (o : List ℕ) (m : ℕ). Numbering (s .args .seats .group) (s .args .colours .now) o m (l .i + 1)) (sym (w .2)) (sym (w .3))
-          (numbering-joins 64 (s .args .n) (s .args .seats .group) (s .args .seats .sets) (s .pre .sets) (s .args .colours .now) (l .colours) (l .next) (l .i) (low .result) (l .inv .1) t
+          (numbering-joins 64 (s .args .n) (s .args .seats .group) (s .args .seats .sets) (s .pre .sets) (s .args .colours .now) (l .colours)
+          (l .next) (l .i) (low .result) (l .inv .1) t
           (k .2) (k .1) (low .ensures) (w .0 .left))) (c .if1 .came),
     )
 

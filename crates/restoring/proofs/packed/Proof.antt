@@ -1,5 +1,5 @@
 -- `restoring::packed` meets its contract: out has the places of those who are not left. Assumes nothing.
-use mathlib.Core.Path.{_≡_, refl}
+use mathlib.Core.Path.{_≡_}
 use Prim.Native.Nat.{_<_}
 use native.Mathlib.Decide.{ℕ-discrete}
 use native.Mathlib.Omega.{arith}
@@ -66,7 +66,8 @@ loop-again c =
     let l = c .before .before .before .before .before .loop in
     let low = c .before .before .before .lowest in
     let r = c .before .before .rest in
-    packing-next 64 (a .present) (a .row) (l .out) (l .left) (low .result) (r .result) (c .with .result) _ (l .inv) (low .ensures) (r .ensures (low .result) (low .ensures))
+    packing-next 64 (a .present) (a .row) (l .out) (l .left) (low .result) (r .result) (c .with .result) _ (l .inv) (low .ensures)
+    (r .ensures (low .result) (low .ensures))
     (placed (c .before .before) .0) (c .with .ensures)
 
 returns : tie.Need-returns Inv-loop μ-loop

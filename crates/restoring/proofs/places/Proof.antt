@@ -1,5 +1,5 @@
 -- `restoring::places` meets its contract: who is not left has its place noted, and i are gone through. Assumes nothing.
-use mathlib.Core.Path.{_≡_, refl}
+use mathlib.Core.Path.{refl}
 use native.Mathlib.Omega.{arith}
 use borrow.Author.Needs.{needs}
 use Prim.Native.Nat.{_<_}
@@ -51,7 +51,8 @@ loop-again : tie.Need-loop-again Inv-loop μ-loop
 loop-again c =
     let l = c .before .before .before .loop in
     let low = c .before .lowest in
-    placing-next 64 (c .before .before .before .before .args .present) (l .out) (l .left) (l .i) (low .result) (c .rest .result) (l .inv) (low .ensures)
+    placing-next 64 (c .before .before .before .before .args .present) (l .out) (l .left) (l .i) (low .result) (c .rest .result) (l .inv)
+    (low .ensures)
     (c .rest .ensures (low .result) (low .ensures))
 
 returns : tie.Need-returns Inv-loop μ-loop

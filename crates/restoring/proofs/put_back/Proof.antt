@@ -1,11 +1,9 @@
 -- `restoring::put_back` meets its contract: all but the first gone - back are back. Assumes nothing.
-use mathlib.Core.Path.{_≡_, refl, sym, ap, _∙_, subst}
-use mathlib.Core.List.{List}
+use mathlib.Core.Path.{subst}
 use Prim.Native.Nat.{ℕ, suc, _+_, _-_, _≤_, _<_}
 use native.Mathlib.Omega.{arith}
 use borrow.Author.Needs.{needs}
 use lib.ListN.{length, getD}
-use Rattle.restoring.specs.declared.Seats.{Seats}
 use Rattle.restoring.proofs.ReturnLaws.{Returns, returns-start, returns-next, returns-end, who-is, other-below, seat-is}
 use Rattle.restoring.proofs.put_back.Statement.{statement}
 use Rattle.restoring.proofs.put_back.Tie as tie
@@ -22,7 +20,8 @@ loop-holds c =
     let s = c .before .before .before .before .before in
     let g = s .args .s in (
       omega arith,
-      subst (λ (i : ℕ). Returns 64 (s .args .rows .now) (g .who) (g .other) (g .gone) (s .args .seats) i (s .args .seats .group) (s .args .seats .sets) (s .args .seats .many))
+      subst (λ (i : ℕ). Returns 64 (s .args .rows .now) (g .who) (g .other) (g .gone) (s .args .seats) i (s .args .seats .group)
+          (s .args .seats .sets) (s .args .seats .many))
           (omega arith) (returns-start 64 (s .args .rows .now) (g .who) (g .other) (g .gone) (s .args .seats) (s .pre)),
     )
 
@@ -42,7 +41,8 @@ entries : (c : tie.In-loop Inv-loop μ-loop)
     → let s = c .before .before .before .before .before .before .before in
     let l = c .before .loop in
     let i = s .args .s .gone - (l .back + 1) in
-    (getD (s .args .s .who) i 0 < length (s .args .rows .now)) × (getD (s .args .s .other) i 0 < length (s .args .rows .now)) × (length (s .args .rows .now) ≤ 64)
+    (getD (s .args .s .who) i 0 < length (s .args .rows .now)) × (getD (s .args .s .other) i 0 < length (s .args .rows .now))
+    × (length (s .args .rows .now) ≤ 64)
     × (l .many + suc i ≤ length (s .args .rows .now))
 entries c =
     let s = c .before .before .before .before .before .before .before in
@@ -85,7 +85,8 @@ found c =
     let l = d .before .loop in
     let i = a .s .gone - (l .back + 1) in
     let e = entries d in
-    let b = seat-is 64 (a .rows .now) (a .s .who) (a .s .other) (a .s .gone) (a .seats) (s .pre) i (l .group) (l .sets) (l .many) (waiting d) (c .seat .result) (c .seat .ensures) in
+    let b = seat-is 64 (a .rows .now) (a .s .who) (a .s .other) (a .s .gone) (a .seats) (s .pre) i (l .group) (l .sets) (l .many) (waiting d)
+    (c .seat .result) (c .seat .ensures) in
     (b .0, omega (arith, b .0, e .3, e .2))
 
 cast-group : tie.Need-cast-group Inv-loop μ-loop
@@ -124,7 +125,8 @@ loop-again c =
     let t = d .loop-test .taken in
     let i = a .s .gone - (l .back + 1) in (
       omega (arith, t),
-      returns-next 64 (a .rows .now) (a .s .who) (a .s .other) (a .s .gone) (a .seats) (s .pre) i (l .group) (l .sets) (l .many) (waiting d) (c .before .before .seat .result)
+      returns-next 64 (a .rows .now) (a .s .who) (a .s .other) (a .s .gone) (a .seats) (s .pre) i (l .group) (l .sets) (l .many) (waiting d)
+          (c .before .before .seat .result)
           (c .more .result) (c .before .with .result) (c .before .before .seat .ensures) (c .more .ensures) (c .before .with .ensures),
     )
 

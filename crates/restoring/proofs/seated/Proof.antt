@@ -1,5 +1,5 @@
 -- `restoring::seated` meets its contract: who is not left is in its group, and i are gone through. Assumes nothing.
-use mathlib.Core.Path.{_≡_, refl}
+use mathlib.Core.Path.{refl}
 use Prim.Native.Nat.{_<_}
 use native.Mathlib.Omega.{arith}
 use borrow.Author.Needs.{needs}

@@ -1,5 +1,5 @@
 -- `restoring::small_rows` meets its contract: the rows below i are those of the shrunk list, and i are gone through. Assumes nothing.
-use mathlib.Core.Path.{_≡_, refl}
+use mathlib.Core.Path.{refl}
 use Prim.Native.Nat.{_<_}
 use native.Mathlib.Omega.{arith}
 use borrow.Author.Needs.{needs}

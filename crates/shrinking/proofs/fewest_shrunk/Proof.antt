@@ -1,9 +1,6 @@
 -- `shrinking::fewest_shrunk` meets its contract. Assumes nothing.
-use mathlib.Core.Path.{_≡_, refl, subst}
-use native.Mathlib.Omega.{arith}
+use mathlib.Core.Path.{refl, subst}
 use borrow.Author.Needs.{needs}
-use lib.ListN.{length}
-use Rattle.clashes.specs.Matrix.{Sound}
 use Rattle.bounds.specs.Names.{mycielskian}
 use Rattle.bounds.specs.Lent.{Answers, noMembers}
 use Rattle.bounds.specs.declared.Bound.the-variants.{At}

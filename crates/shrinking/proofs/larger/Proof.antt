@@ -1,5 +1,5 @@
 -- `shrinking::larger` meets its contract. Assumes nothing.
-use mathlib.Core.Path.{_≡_, sym, ap, _∙_}
+use mathlib.Core.Path.{ap}
 use mathlib.Core.Bool.{Bool, cond}
 use Prim.Native.Nat.{max}
 use native.Mathlib.Omega.{arith}
