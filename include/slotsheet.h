@@ -14,7 +14,7 @@
 
    What is lent. A lent slice is a pointer and a length in elements (not in bytes), and the pointer is aligned as its type wants. Where the length
    is 0 the pointer may be NULL or any other, so an empty std::vector is passed as it is; elsewhere it is never NULL. What a call writes (`colours`
-   of a walk or a check, `rows` of a reading, `out` of the writers) must not overlap anything else that is lent to that call. What it
+   of a walk or a check, `rows` of a reading, `out` of the writers and of mending) must not overlap anything else that is lent to that call. What it
    only reads may overlap: the list and the sheet of a check may be one text.
 
    Threads. Calls share nothing, so any number of threads may call at once, as long as none writes what another is lent. A call needs less than
@@ -33,12 +33,13 @@ extern "C" {
 #endif
 
 /* tools/bindings writes from here on, from bindings/interface.txt */
-#define SLOTSHEET_VERSION "5.1.0"
+#define SLOTSHEET_VERSION "5.2.0"
 
 #define SLOTSHEET_ENTRIES 64          /* the most entries of a list */
 #define SLOTSHEET_BYTES 65536         /* the most bytes of a text that is read */
 #define SLOTSHEET_SHEET_BYTES 641     /* no sheet is longer */
 #define SLOTSHEET_LIST_BYTES 15576    /* no written list is longer */
+#define SLOTSHEET_MEND_BYTES 449161   /* no mended sheet with its report is longer */
 #define SLOTSHEET_NODES 1000000       /* the nodes that the walk of the program slotsheet may enter */
 #define SLOTSHEET_STACK_BYTES 262144  /* the stack that a thread needs to make any call, with room to spare */
 
@@ -127,6 +128,14 @@ struct slotsheet_checking {
     size_t text;      /* the text at fault: an enum slotsheet_text */
 };
 
+struct slotsheet_mending {
+    size_t refusal;
+    size_t line;
+    size_t column;    /* as of a reading, where the list is at fault */
+    size_t length;    /* of report and mended sheet together */
+    size_t text;      /* the text at fault: an enum slotsheet_text; for 19 the sheet */
+};
+
 struct slotsheet_part {
     size_t text;      /* the text that it is a part of: an enum slotsheet_text */
     size_t start;     /* where it starts in that text, in bytes */
@@ -198,6 +207,17 @@ struct slotsheet_checking slotsheet_check_sheet_repeats(const uint8_t *list, siz
 struct slotsheet_part slotsheet_fault_line(const uint8_t *list, size_t list_length, const uint8_t *sheet, size_t sheet_length, size_t room);
 struct slotsheet_part slotsheet_fault_line_repeats(const uint8_t *list, size_t list_length, const uint8_t *sheet, size_t sheet_length,
                                                    size_t room);
+
+/* Puts a hand-edited sheet right: the list's refusals, then the sheet's 18, the first of 30 (by line), 35, 37, and last 19. Goes through the members in the
+   sheet's order, drops one that is no entry or stood before, and lifts out one that clashes with a member kept before it in its group; lifted and absent
+   entries, by rising number, go to the first group that admits them, else to a new one. Accepted, writes the first `length` bytes; those after stay:
+   a line "dropped L" for each dropped line, by its number; a line "put E group G" for each entry that was lifted or absent, G being its group in the mended
+   sheet, from 1; then the mended sheet, which slotsheet_check_sheet accepts. A sheet that is accepted as it is comes back as it is, with no line before it.
+   SLOTSHEET_MEND_BYTES are enough. */
+struct slotsheet_mending slotsheet_mend_sheet(const uint8_t *list, size_t list_length, const uint8_t *sheet, size_t sheet_length,
+                                              uint8_t *out, size_t out_length);
+struct slotsheet_mending slotsheet_mend_sheet_repeats(const uint8_t *list, size_t list_length, const uint8_t *sheet, size_t sheet_length,
+                                                      uint8_t *out, size_t out_length);
 
 /* Writes the very bytes that the program slotsheet, or "slotsheet --repeats", prints for a clash text: the sheet of its fewest groups, by a walk of
    at most SLOTSHEET_NODES nodes, or "refused R line L" (of 10, 21, 22 and 23 "refused R line L column C") and a line feed: 19 where they do not all

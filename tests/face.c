@@ -104,6 +104,10 @@ static void nulls(void) {
     CHECK(slotsheet_check_sheet_repeats(NULL, 0, NULL, 0, NULL, 0).text == SLOTSHEET_LIST);
     CHECK(slotsheet_fault_line(NULL, 0, NULL, 0, 0).length == 0);
     CHECK(slotsheet_fault_line_repeats(NULL, 0, NULL, 0, 0).length == 0);
+    CHECK(slotsheet_mend_sheet(NULL, 0, NULL, 0, NULL, 0).text == SLOTSHEET_LIST);
+    CHECK(slotsheet_mend_sheet_repeats(NULL, 0, NULL, 0, NULL, 0).refusal == SLOTSHEET_HEADLESS);
+    CHECK(slotsheet_mend_sheet((const uint8_t *)"p edge 0 0\n", 11, NULL, 0, NULL, 0).refusal == SLOTSHEET_ENDS);
+    CHECK(slotsheet_mend_sheet((const uint8_t *)"p edge 0 0\n", 11, (const uint8_t *)"groups 0\n", 9, NULL, 0).refusal == SLOTSHEET_FULL);
     CHECK(slotsheet_answer(NULL, 0, NULL, 0).refusal == SLOTSHEET_FULL);
     CHECK(slotsheet_answer_repeats(NULL, 0, NULL, 0).refusal == SLOTSHEET_FULL);
     CHECK(slotsheet_answer_repeats(NULL, 0, out, sizeof out).length == length("refused 11 line 1\n"));
@@ -160,6 +164,43 @@ static void shrunk(void) {
     CHECK(slotsheet_fewest_shrunk(five, 5, lent, 6, 0).refusal == SLOTSHEET_BUDGET);
 }
 
+/* Mended for three entries, of which the first two clash, in a buffer of so many bytes: the answer's numbers, and what the buffer then holds. */
+static struct slotsheet_mending mended(const char *sheet, size_t room, const char *holds) {
+    const char *list = "p edge 3 1\ne 1 2\n";
+    static uint8_t lent[200], again[200];
+    memset(lent, '#', sizeof lent);
+    struct slotsheet_mending said = slotsheet_mend_sheet((const uint8_t *)list, length(list), (const uint8_t *)sheet, length(sheet), lent, room);
+    struct slotsheet_mending same = slotsheet_mend_sheet_repeats((const uint8_t *)list, length(list), (const uint8_t *)sheet, length(sheet), again, room);
+    CHECK(memcmp(&said, &same, sizeof said) == 0);
+    CHECK(memcmp(lent, holds, length(holds)) == 0);
+    for (size_t i = length(holds); i < sizeof lent; i++) CHECK(lent[i] == '#');
+    return said;
+}
+
+/* Drops, lifts and puts; and each refusal of the sheet, with its line, in the order 18, 30, 35, 37, 19. 31 to 34 and 36 are put right. */
+static void mendings(void) {
+    const char *right = "groups 2\nsize 2\n1\n3\nsize 1\n2\n";
+    struct slotsheet_mending said = mended(right, 200, right);
+    CHECK(said.refusal == SLOTSHEET_ACCEPTED && said.length == length(right) && said.line == 0 && said.column == 0 && said.text == SLOTSHEET_NONE);
+    said = mended("groups 1\nsize 4\n9\n1\n2\n1\n", 200, "dropped 3\ndropped 6\nput 2 group 2\nput 3 group 1\ngroups 2\nsize 2\n1\n3\nsize 1\n2\n");
+    CHECK(said.refusal == SLOTSHEET_ACCEPTED && said.length == 48 + length(right) && said.text == SLOTSHEET_NONE);
+    said = mended(right, length(right) - 1, "");
+    CHECK(said.refusal == SLOTSHEET_FULL && said.line == 0 && said.length == 0 && said.text == SLOTSHEET_SHEET);
+    CHECK(mended("groups 2\nsize 2\n3\n1\nsize 1\n2\n", length(right), right).length == length(right));
+    CHECK(mended("groups 2\nsize 2\n1\n3\nsize 2\n2\n3\n", 0, "").refusal == SLOTSHEET_FULL);
+    said = mended("groups 1\nsize 2\n9\nx\n", 0, "");
+    CHECK(said.refusal == SLOTSHEET_SHEET_LINE && said.line == 4 && said.column == 0 && said.text == SLOTSHEET_SHEET);
+    said = mended("groups 1\nsize 2\n9\n", 0, "");
+    CHECK(said.refusal == SLOTSHEET_ENDS && said.line == 4);
+    said = mended("groups 1\nsize 1\n9\nx", 0, "");
+    CHECK(said.refusal == SLOTSHEET_EXTRA && said.line == 4);
+    const char *list = "p edge 0 0\n";
+    said = slotsheet_mend_sheet((const uint8_t *)list, length(list), longest, sizeof longest, out, sizeof out);
+    CHECK(said.refusal == SLOTSHEET_LONG && said.line == 0 && said.text == SLOTSHEET_SHEET);
+    said = slotsheet_mend_sheet(longest, sizeof longest, longest, sizeof longest, out, sizeof out);
+    CHECK(said.refusal == SLOTSHEET_LONG && said.line == 0 && said.text == SLOTSHEET_LIST);
+}
+
 /* A sentence in every buffer that is too small for it, and in one that is large enough: nothing past the buffer, and a 0 at its end. */
 static void buffers(void) {
     const char *whole = "line 7: entry 12 stands in an earlier group";
@@ -200,6 +241,17 @@ static void *deepest(void *unused) {
     CHECK(slotsheet_read_list_repeats(text, list.length, none, 64).entries == 64);
     CHECK(slotsheet_check_sheet_repeats(text, list.length, sheet, written.length, own, 64).groups == 2);
     CHECK(slotsheet_fault_line_repeats(text, list.length, sheet, written.length, 64).text == SLOTSHEET_NONE);
+    static uint8_t report[SLOTSHEET_MEND_BYTES], typed[SLOTSHEET_BYTES];
+    size_t at = (size_t)sprintf((char *)typed, "groups 1\nsize 32758\n");
+    for (; at < sizeof typed; at += 2) typed[at] = '0', typed[at + 1] = '\n';
+    CHECK(slotsheet_mend_sheet(text, list.length, sheet, written.length, report, sizeof report).length == written.length);
+    CHECK(slotsheet_mend_sheet(text, list.length, typed, sizeof typed, report, sizeof report).refusal == SLOTSHEET_ACCEPTED);
+    CHECK(slotsheet_mend_sheet_repeats(text, list.length, typed, sizeof typed, report, 9).refusal == SLOTSHEET_FULL);
+    for (int i = 0; i < 64; i++) none[i] = ~((uint64_t)1 << i);
+    list = slotsheet_write_list(none, 64, text, sizeof text);
+    CHECK(list.length == SLOTSHEET_LIST_BYTES);
+    CHECK(slotsheet_mend_sheet(text, list.length, typed, sizeof typed, report, sizeof report).length == SLOTSHEET_MEND_BYTES);
+    CHECK(slotsheet_mend_sheet(text, list.length, typed, sizeof typed, report, sizeof report - 1).refusal == SLOTSHEET_FULL);
     static const uint8_t edgeless[] = "p edge 64 0\n";
     CHECK(slotsheet_answer(edgeless, sizeof edgeless - 1, sheet, sizeof sheet).length == 200);
     CHECK(memcmp(sheet, "groups 1\nsize 64\n1\n2\n", 21) == 0);
@@ -250,10 +302,11 @@ struct calls {
     struct slotsheet_checking (*check_sheet)(const uint8_t *, size_t, const uint8_t *, size_t, uint8_t *, size_t);
     struct slotsheet_part (*fault_line)(const uint8_t *, size_t, const uint8_t *, size_t, size_t);
     struct slotsheet_writing (*answer)(const uint8_t *, size_t, uint8_t *, size_t);
+    struct slotsheet_mending (*mend_sheet)(const uint8_t *, size_t, const uint8_t *, size_t, uint8_t *, size_t);
 };
-static const struct calls plain = {slotsheet_read_list, slotsheet_check_sheet, slotsheet_fault_line, slotsheet_answer};
+static const struct calls plain = {slotsheet_read_list, slotsheet_check_sheet, slotsheet_fault_line, slotsheet_answer, slotsheet_mend_sheet};
 static const struct calls repeats = {slotsheet_read_list_repeats, slotsheet_check_sheet_repeats, slotsheet_fault_line_repeats,
-                                     slotsheet_answer_repeats};
+                                     slotsheet_answer_repeats, slotsheet_mend_sheet_repeats};
 
 static void example(const struct calls *by, size_t refusal, size_t line, size_t column, const uint8_t *text, size_t text_length) {
     struct slotsheet_reading read = by->read_list(text, text_length, rows, SLOTSHEET_ENTRIES);
@@ -261,8 +314,11 @@ static void example(const struct calls *by, size_t refusal, size_t line, size_t 
     struct slotsheet_checking check = by->check_sheet(text, text_length, NULL, 0, colours, SLOTSHEET_ENTRIES);
     CHECK((check.text == SLOTSHEET_LIST) == (refusal != SLOTSHEET_ACCEPTED));
     CHECK(by->fault_line(text, text_length, NULL, 0, SLOTSHEET_ENTRIES).text == check.text);
+    struct slotsheet_mending mend = by->mend_sheet(text, text_length, NULL, 0, out, sizeof out);
+    CHECK((mend.text == SLOTSHEET_LIST) == (refusal != SLOTSHEET_ACCEPTED));
     if (refusal == SLOTSHEET_ACCEPTED) return;
     CHECK(check.refusal == refusal && check.line == line && check.column == column && check.groups == 0);
+    CHECK(mend.refusal == refusal && mend.line == line && mend.column == column && mend.length == 0);
     char said[256], start[80], printed[80];
     slotsheet_sentence(refusal, line, column, NULL, 0, said, sizeof said);
     if (column == 0) {
@@ -310,6 +366,7 @@ int main(int count, char **words) {
     searched(slotsheet_fewest_by_placing, 3);
     searched(slotsheet_fewest_shrunk, 1);
     shrunk();
+    mendings();
     buffers();
     small_stack();
     CHECK(strcmp(slotsheet_version(), SLOTSHEET_VERSION) == 0);

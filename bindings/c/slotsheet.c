@@ -27,6 +27,8 @@ struct slotsheet_checking slotsheet_proved_check_sheet(const uint8_t *, size_t, 
 struct slotsheet_checking slotsheet_proved_check_sheet_repeats(const uint8_t *, size_t, const uint8_t *, size_t, uint8_t *, size_t);
 struct slotsheet_part slotsheet_proved_fault_line(const uint8_t *, size_t, const uint8_t *, size_t, size_t);
 struct slotsheet_part slotsheet_proved_fault_line_repeats(const uint8_t *, size_t, const uint8_t *, size_t, size_t);
+struct slotsheet_mending slotsheet_proved_mend_sheet(const uint8_t *, size_t, const uint8_t *, size_t, uint8_t *, size_t);
+struct slotsheet_mending slotsheet_proved_mend_sheet_repeats(const uint8_t *, size_t, const uint8_t *, size_t, uint8_t *, size_t);
 struct slotsheet_writing slotsheet_proved_answer(const uint8_t *, size_t, uint8_t *, size_t);
 struct slotsheet_writing slotsheet_proved_answer_repeats(const uint8_t *, size_t, uint8_t *, size_t);
 
@@ -93,6 +95,16 @@ struct slotsheet_part slotsheet_fault_line(const uint8_t *list, size_t list_leng
 struct slotsheet_part slotsheet_fault_line_repeats(const uint8_t *list, size_t list_length, const uint8_t *sheet, size_t sheet_length,
                                                    size_t room) {
     return slotsheet_proved_fault_line_repeats(BYTES(list), BYTES(sheet), room);
+}
+
+struct slotsheet_mending slotsheet_mend_sheet(const uint8_t *list, size_t list_length, const uint8_t *sheet, size_t sheet_length,
+                                              uint8_t *out, size_t out_length) {
+    return slotsheet_proved_mend_sheet(BYTES(list), BYTES(sheet), BYTES(out));
+}
+
+struct slotsheet_mending slotsheet_mend_sheet_repeats(const uint8_t *list, size_t list_length, const uint8_t *sheet, size_t sheet_length,
+                                                      uint8_t *out, size_t out_length) {
+    return slotsheet_proved_mend_sheet_repeats(BYTES(list), BYTES(sheet), BYTES(out));
 }
 
 struct slotsheet_writing slotsheet_answer(const uint8_t *text, size_t text_length, uint8_t *out, size_t out_length) {

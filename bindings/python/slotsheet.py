@@ -48,18 +48,19 @@ from ctypes import POINTER, c_char_p, c_size_t, c_uint8, c_uint64
 from pathlib import Path
 
 __all__ = [
-    "VERSION", "ENTRIES", "BYTES", "SHEET_BYTES", "LIST_BYTES", "NODES", "STACK_BYTES", "Refused", "Walked", "Clique", "Checked", "version", "rows_of", "validity",
+    "VERSION", "ENTRIES", "BYTES", "SHEET_BYTES", "LIST_BYTES", "MEND_BYTES", "NODES", "STACK_BYTES", "Refused", "Walked", "Clique", "Checked", "Mended", "version", "rows_of", "validity",
     "clique_bound", "mycielskian_bound", "fewest", "plain", "fewest_by_placing", "fewest_shrunk", "read_list", "read_list_repeats", "write_list", "write_sheet",
-    "check_sheet", "check_sheet_repeats", "fault_line", "fault_line_repeats", "answer", "answer_repeats",
+    "check_sheet", "check_sheet_repeats", "fault_line", "fault_line_repeats", "mend_sheet", "mend_sheet_repeats", "answer", "answer_repeats",
 ]
 
 # tools/bindings writes from here on, from bindings/interface.txt
-VERSION = "5.1.0"
+VERSION = "5.2.0"
 
 ENTRIES = 64  # the most entries of a list
 BYTES = 65_536  # the most bytes of a text that is read
 SHEET_BYTES = 641  # no sheet is longer
 LIST_BYTES = 15_576  # no written list is longer
+MEND_BYTES = 449_161  # no mended sheet with its report is longer
 NODES = 1_000_000  # the nodes that the walk of the program slotsheet may enter
 STACK_BYTES = 262_144  # the stack that a thread needs to make any call, with room to spare
 
@@ -112,11 +113,12 @@ class Refused(ValueError):
     row       the row, counted from 0: that of entry row + 1
     index     the index of a group number, counted from 0: that of entry index + 1
     nodes     the nodes that the walk was allowed
-    text      of a check, the text at fault: "list" or "sheet"
-    shown     of a check, the line at fault, as bytes
+    text      of a check or of mending, the text at fault: "list" or "sheet"
+    shown     of a check or of mending, the line at fault, as bytes
     sentence  all that in words for people
 
-    Of line, column, row, index and nodes those are None that are not returned beside the refusal; text and shown are None but for a check.
+    Of line, column, row, index and nodes those are None that are not returned beside the refusal; text and shown are None but for a check and for
+    mending.
     """
 
     def __init__(self, number, place, column=0, text=None, shown=None):
@@ -146,6 +148,9 @@ Clique = namedtuple("Clique", "size members")
 Clique.__doc__ = """Entries that all clash with one another, so that no two of them can be in one group: how many, and which, counted from 0, rising."""
 Checked = namedtuple("Checked", "k colours")
 Checked.__doc__ = "An accepted sheet: its number of groups k, and each entry's group."
+Mended = namedtuple("Mended", "sheet dropped put")
+Mended.__doc__ = """A mended sheet, as str; the lines of the sheet as it was typed that were dropped; and each entry that was put into a group, with that group in the
+mended sheet. Lines, entries and groups count from 1, as in texts."""
 
 
 class _Verdict(ctypes.Structure):
@@ -170,6 +175,10 @@ class _Writing(ctypes.Structure):
 
 class _Checking(ctypes.Structure):
     _fields_ = [("refusal", c_size_t), ("line", c_size_t), ("column", c_size_t), ("groups", c_size_t), ("text", c_size_t)]
+
+
+class _Mending(ctypes.Structure):
+    _fields_ = [("refusal", c_size_t), ("line", c_size_t), ("column", c_size_t), ("length", c_size_t), ("text", c_size_t)]
 
 
 class _Part(ctypes.Structure):
@@ -197,6 +206,8 @@ _CALLS = {
     "check_sheet_repeats": (_Checking, _TEXT + _TEXT + _LENT),
     "fault_line": (_Part, _TEXT + _TEXT + [c_size_t]),
     "fault_line_repeats": (_Part, _TEXT + _TEXT + [c_size_t]),
+    "mend_sheet": (_Mending, _TEXT + _TEXT + _LENT),
+    "mend_sheet_repeats": (_Mending, _TEXT + _TEXT + _LENT),
     "answer": (_Writing, _TEXT + _LENT),
     "answer_repeats": (_Writing, _TEXT + _LENT),
     "version": (c_char_p, []),
@@ -444,3 +455,41 @@ def fault_line(list_text, sheet):
 def fault_line_repeats(list_text, sheet):
     """The same for check_sheet_repeats."""
     return _part(_library.slotsheet_fault_line_repeats, _text(list_text), _text(sheet))
+
+
+def _line(text, number):
+    """The line of a text by its number from 1, as bytes without its line feed; empty past the last."""
+    lines = text.split(b"\n")
+    return lines[number - 1] if 0 < number <= len(lines) else b""
+
+
+def _mend(call, list_text, sheet):
+    list_text, sheet = _text(list_text), _text(sheet)
+    out = (c_uint8 * MEND_BYTES)()
+    said = call(list_text, len(list_text), sheet, len(sheet), out, MEND_BYTES)
+    if said.refusal:
+        text = "list" if said.text == _LIST else "sheet"
+        raise Refused(said.refusal, said.line, said.column, text, _line(list_text if text == "list" else sheet, said.line))
+    lines = bytes(out[: said.length]).decode("ascii").splitlines(keepends=True)
+    dropped = [int(line.split()[1]) for line in lines if line.startswith("dropped ")]
+    put = [(int(line.split()[1]), int(line.split()[3])) for line in lines if line.startswith("put ")]
+    return Mended("".join(lines[len(dropped) + len(put) :]), dropped, put)
+
+
+def mend_sheet(list_text, sheet):
+    """A hand-edited sheet put right for a list, as a Mended; both are texts, as str or bytes.
+
+    Members that are no entry or stood before are dropped, those that clash with one kept before in their group are lifted out, and lifted and absent entries go
+    to the first group that admits them, else to a new one. check_sheet accepts the mended sheet, and one that it accepts comes back as it is.
+
+    Refused by the list's own refusals, then the sheet's: 18, 30, 35, 37. The exception says which text is at fault, and shows the line.
+
+    >>> mend_sheet("p edge 3 1\\ne 1 2\\n", "groups 1\\nsize 3\\n1\\n2\\n1\\n")
+    Mended(sheet='groups 2\\nsize 2\\n1\\n3\\nsize 1\\n2\\n', dropped=[5], put=[(2, 2), (3, 1)])
+    """
+    return _mend(_library.slotsheet_mend_sheet, list_text, sheet)
+
+
+def mend_sheet_repeats(list_text, sheet):
+    """The same, and an edge of the list may stand a second time."""
+    return _mend(_library.slotsheet_mend_sheet_repeats, list_text, sheet)

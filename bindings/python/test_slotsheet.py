@@ -46,8 +46,8 @@ REFUSED = {
 UNMET = {5, 17, 19}
 
 # The functions that read a clash text, by the two readings.
-PLAIN = (slotsheet.read_list, slotsheet.check_sheet, slotsheet.answer)
-REPEATS = (slotsheet.read_list_repeats, slotsheet.check_sheet_repeats, slotsheet.answer_repeats)
+PLAIN = (slotsheet.read_list, slotsheet.check_sheet, slotsheet.answer, slotsheet.mend_sheet)
+REPEATS = (slotsheet.read_list_repeats, slotsheet.check_sheet_repeats, slotsheet.answer_repeats, slotsheet.mend_sheet_repeats)
 
 
 def interface(kind):
@@ -110,6 +110,27 @@ class Calls(unittest.TestCase):
         self.assertEqual(slotsheet.fault_line(text, sheet), b"e 2 1")
         self.assertEqual(slotsheet.fault_line_repeats(text, sheet), b"")
         self.assertEqual(slotsheet.fault_line_repeats(text, sheet[:-2] + "3\n"), b"3")
+        self.assertEqual(slotsheet.mend_sheet_repeats(text, sheet[:-2] + "3\n"), (sheet, [6], [(2, 2)]))
+
+    def test_mending(self):
+        sheet = "groups 2\nsize 1\n1\nsize 2\n2\n3\n"
+        self.assertEqual(slotsheet.mend_sheet(LIST, sheet), (sheet, [], []))
+        self.assertEqual(slotsheet.mend_sheet(LIST, b"groups 1\nsize 4\n0\n1\n2\n1\n"), ("groups 2\nsize 2\n1\n3\nsize 1\n2\n", [3, 6], [(2, 2), (3, 1)]))
+        self.assertEqual(slotsheet.mend_sheet("p edge 0 0\n", "groups 1\nsize 1\n1\n"), ("groups 0\n", [3], []))
+        every = slotsheet.write_list(slotsheet.rows_of(64, [(i, j) for i in range(64) for j in range(i)]))
+        longest = slotsheet.mend_sheet(every, "groups 1\nsize 32758\n" + "0\n" * 32_758)
+        self.assertEqual((len(longest.dropped), longest.put[-1], len(longest.sheet)), (32_758, (64, 64), slotsheet.SHEET_BYTES))
+        for text, sheet, number, line, fault, shown in (
+            ("p edge 2 1\ne 1 1\n", "x", 15, 2, "list", b"e 1 1"),
+            (LIST, "groups 1\nsize x\n", 30, 2, "sheet", b"size x"),
+            (LIST, "groups 1\n", 35, 2, "sheet", b""),
+            (LIST, "groups 0\n1\n", 37, 2, "sheet", b"1"),
+            (LIST, "x" * 65_537, 18, None, "sheet", b""),
+        ):
+            with self.subTest(number), self.assertRaises(Refused) as caught:
+                slotsheet.mend_sheet(text, sheet)
+            refused = caught.exception
+            self.assertEqual((refused.number, refused.line, refused.text, refused.shown), (number, line, fault, shown))
 
     def test_wrong_arguments(self):
         for rows in ([-1], [1 << 64]):
@@ -152,14 +173,14 @@ class Refusals(unittest.TestCase):
         for example in (line for line in stored.splitlines() if line and not line.startswith("#")):
             reading, number, line, column, text = example.split(" ", 4)
             text = text.encode().decode("unicode_escape").encode("latin-1")
-            for read, check, answer in (PLAIN, REPEATS) if reading == "both" else (PLAIN,) if reading == "plain" else (REPEATS,):
+            for read, check, answer, mend in (PLAIN, REPEATS) if reading == "both" else (PLAIN,) if reading == "plain" else (REPEATS,):
                 with self.subTest(example):
                     if number == "0":
                         read(text)
                         continue
                     told = f"refused {number} line {line}" + (f" column {column}" if column != "0" else "")
                     self.assertEqual(answer(text), told + "\n")
-                    for call in (lambda: read(text), lambda: check(text, "")):
+                    for call in (lambda: read(text), lambda: check(text, ""), lambda: mend(text, "")):
                         with self.assertRaises(Refused) as caught:
                             call()
                         refused = caught.exception

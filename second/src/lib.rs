@@ -7,13 +7,15 @@
 //! - `placing`: document 02's search that never merges, with its node count;
 //! - `shrink`: document 02's shrinking before a walk, and putting back;
 //! - `list`: reading and writing a clash text; `shape`: what its lines may be, and the column at which one goes bad;
-//! - `sheet`: writing a sheet, checking one against a list, and the preview's part.
+//! - `sheet`: writing a sheet, checking one against a list, and the preview's part;
+//! - `mend`: document 02's mending of a hand-edited sheet.
 
 pub mod clique;
 pub mod colouring;
 pub mod lines;
 pub mod list;
 pub mod matrix;
+pub mod mend;
 pub mod placing;
 pub mod refusal;
 pub mod shape;

@@ -5,7 +5,7 @@ use crate::list::{self, put, Reading};
 use crate::{matrix, Refusal, Refused, BYTES, ENTRIES};
 
 /// The sheet of colours numbered by first use, `k` groups.
-fn text_of(colours: &[u8], k: usize) -> String {
+pub(crate) fn text_of(colours: &[u8], k: usize) -> String {
     let mut text = format!("groups {k}\n");
     for group in 0..k {
         let members: Vec<usize> = (0..colours.len()).filter(|&i| usize::from(colours[i]) == group).collect();
@@ -115,7 +115,7 @@ impl State<'_> {
 }
 
 /// The count of a line "WORD COUNT".
-fn counted(line: &Line, word: &[u8]) -> Option<usize> {
+pub(crate) fn counted(line: &Line, word: &[u8]) -> Option<usize> {
     match words(line.bytes)[..] {
         [first, count] if first == word => number(count),
         _ => None,

@@ -125,14 +125,36 @@ pub fn fault_line_repeats(list: &[u8], sheet: &[u8], room: usize) -> [usize; 3] 
     [said.text, said.start, said.length]
 }
 
+fn mended(said: raw::Mending) -> [usize; 5] {
+    [said.refusal, said.line, said.column, said.length, said.text]
+}
+
+pub fn mend_sheet(list: &[u8], sheet: &[u8], out: &mut [u8]) -> [usize; 5] {
+    let (room, lent) = (out.len(), out.as_mut_ptr());
+    // SAFETY: as in `validity`.
+    mended(unsafe { raw::slotsheet_mend_sheet(list.as_ptr(), list.len(), sheet.as_ptr(), sheet.len(), lent, room) })
+}
+
+pub fn mend_sheet_repeats(list: &[u8], sheet: &[u8], out: &mut [u8]) -> [usize; 5] {
+    let (room, lent) = (out.len(), out.as_mut_ptr());
+    // SAFETY: as in `validity`.
+    mended(unsafe { raw::slotsheet_mend_sheet_repeats(list.as_ptr(), list.len(), sheet.as_ptr(), sheet.len(), lent, room) })
+}
+
 /// The calls that read a clash text, by one reading.
 pub struct Calls {
     pub read_list: fn(&[u8], &mut [u64]) -> [usize; 4],
     pub check_sheet: fn(&[u8], &[u8], &mut [u8]) -> [usize; 5],
     pub fault_line: fn(&[u8], &[u8], usize) -> [usize; 3],
     pub answer: fn(&[u8], &mut [u8]) -> [usize; 3],
+    pub mend_sheet: fn(&[u8], &[u8], &mut [u8]) -> [usize; 5],
 }
 
-pub const PLAIN: Calls = Calls { read_list, check_sheet, fault_line, answer };
-pub const REPEATS: Calls =
-    Calls { read_list: read_list_repeats, check_sheet: check_sheet_repeats, fault_line: fault_line_repeats, answer: answer_repeats };
+pub const PLAIN: Calls = Calls { read_list, check_sheet, fault_line, answer, mend_sheet };
+pub const REPEATS: Calls = Calls {
+    read_list: read_list_repeats,
+    check_sheet: check_sheet_repeats,
+    fault_line: fault_line_repeats,
+    answer: answer_repeats,
+    mend_sheet: mend_sheet_repeats,
+};

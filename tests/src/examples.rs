@@ -1,7 +1,7 @@
 //! The texts of tests/examples.txt: what is stored there is what the second program, the proved library and its wrappers say.
 
 use second::list::Reading;
-use second::{list, sheet, Refused};
+use second::{list, mend, sheet, Refused};
 
 use crate::calls::{Calls, PLAIN, REPEATS};
 
@@ -61,9 +61,11 @@ fn second_says(read: Reading, other: Reading, told: [usize; 3], text: &[u8]) {
     };
     same(read(text, &mut [0; 64]).err());
     same(other(text, &mut [0; 64]).err());
-    match sheet::check_by(read, text, SHEET, &mut [0; 64]) {
-        Err(fault) if fault.text == sheet::Text::List => same(Some(fault.refused)),
-        _ => same(None),
+    for answer in [sheet::check_by(read, text, SHEET, &mut [0; 64]), mend::mend_by(read, text, SHEET, &mut [0; 64])] {
+        match answer {
+            Err(fault) if fault.text == sheet::Text::List => same(Some(fault.refused)),
+            _ => same(None),
+        }
     }
 }
 
@@ -77,8 +79,9 @@ fn library_says(calls: &Calls, told: [usize; 3], text: &[u8]) {
     let [refusal, line, column, _] = (calls.read_list)(text, &mut [0; 64]);
     assert_eq!([refusal, line, column], told, "{:?}", String::from_utf8_lossy(text));
     let said = (calls.check_sheet)(text, SHEET, &mut [0; 64]);
+    let mended = (calls.mend_sheet)(text, SHEET, &mut [0; 64]);
     if refusal > 0 {
-        assert_eq!(said, [refusal, line, column, 0, 1]);
+        assert_eq!([said, mended], [[refusal, line, column, 0, 1]; 2]);
         assert_eq!((calls.fault_line)(text, SHEET, 64)[0], 1);
         let mut printed = format!("refused {refusal} line {line}");
         if column > 0 {
@@ -89,6 +92,7 @@ fn library_says(calls: &Calls, told: [usize; 3], text: &[u8]) {
         assert_eq!(String::from_utf8_lossy(&out[..length]), printed + "\n");
     } else {
         assert_ne!(said[4], 1);
+        assert_ne!(mended[4], 1);
     }
 }
 
@@ -100,24 +104,29 @@ fn by_the_library() {
 
 type Checked = Result<usize, slotsheet::Fault>;
 
-fn wrappers_say(read: Result<usize, slotsheet::Refused>, check: Checked, told: [usize; 3]) {
+fn wrappers_say(read: Result<usize, slotsheet::Refused>, check: Checked, mend: Checked, told: [usize; 3]) {
     let Err(refused) = read else {
         return assert_eq!(told, [0; 3]);
     };
     assert_eq!([refused.why.number(), refused.place as usize, refused.column], told);
     let start = if told[2] > 0 { format!("line {}, column {}: ", told[1], told[2]) } else { format!("line {}: ", told[1]) };
     assert!(refused.to_string().starts_with(&start), "{refused}");
-    let fault = check.expect_err("the list is at fault");
-    assert_eq!((fault.text, fault.refused), (slotsheet::Text::List, refused));
+    for answer in [check, mend] {
+        let fault = answer.expect_err("the list is at fault");
+        assert_eq!((fault.text, fault.refused), (slotsheet::Text::List, refused));
+    }
 }
 
 #[test]
 fn by_the_wrappers() {
-    let (mut rows, mut colours) = ([0; 64], [0; 64]);
+    let (mut rows, mut colours, mut out) = ([0; 64], [0; 64], [0; 64]);
     for (told, text) in by_plain() {
-        wrappers_say(slotsheet::read_list(&text, &mut rows), slotsheet::check_sheet(&text, SHEET, &mut colours), told);
+        let (check, mend) = (slotsheet::check_sheet(&text, SHEET, &mut colours), slotsheet::mend_sheet(&text, SHEET, &mut out));
+        wrappers_say(slotsheet::read_list(&text, &mut rows), check, mend, told);
     }
     for (told, text) in by_repeats() {
-        wrappers_say(slotsheet::read_list_repeats(&text, &mut rows), slotsheet::check_sheet_repeats(&text, SHEET, &mut colours), told);
+        let (check, mend) =
+            (slotsheet::check_sheet_repeats(&text, SHEET, &mut colours), slotsheet::mend_sheet_repeats(&text, SHEET, &mut out));
+        wrappers_say(slotsheet::read_list_repeats(&text, &mut rows), check, mend, told);
     }
 }

@@ -171,6 +171,75 @@ fn sheet_text(groups: &[Vec<usize>]) -> Vec<u8> {
     text.into_bytes()
 }
 
+/// A clash text, mostly whole, and a sheet of it into which a hand has typed.
+pub fn typed(numbers: &mut Numbers) -> (Vec<u8>, Vec<u8>) {
+    let most = *pick(numbers, &[2, 6, 12, 12, 30, 64]);
+    let rows = list_of(numbers, most);
+    let n = rows.len();
+    let mut list = list_text(numbers, &rows);
+    if chance(numbers, 10) {
+        damage(numbers, &mut list, n);
+    }
+    let mut groups: Vec<Vec<usize>> =
+        division(numbers, &rows).into_iter().map(|group| group.into_iter().map(|entry| entry + 1).collect()).collect();
+    for _ in 0..numbers.below(5) {
+        slip(numbers, &mut groups, n);
+    }
+    let mut sheet = typed_text(numbers, &groups);
+    if chance(numbers, 15) {
+        damage(numbers, &mut sheet, n);
+    }
+    (list, sheet)
+}
+
+/// A slip that leaves a sheet its shape, since the counts are those of what stands there: a name twice, another number in a name's place, a name left out,
+/// two lines changed about, two groups changed about, or put together.
+fn slip(numbers: &mut Numbers, groups: &mut Vec<Vec<usize>>, n: usize) {
+    if groups.is_empty() {
+        return groups.push(vec![numbers.below(n as u64 + 2) as usize]);
+    }
+    let from = numbers.below(groups.len() as u64) as usize;
+    let to = numbers.below(groups.len() as u64) as usize;
+    let at = numbers.below(groups[from].len() as u64) as usize;
+    let place = numbers.below(groups[to].len() as u64) as usize;
+    let member = groups[from][at];
+    let other = groups[to][place];
+    match numbers.below(8) {
+        0 | 1 => groups[to].insert(place, member),
+        2 => groups[from][at] = *pick(numbers, &[0, 1, n / 2, n, n + 1, 65, 9_999_999]),
+        3 => drop(groups[from].remove(at)),
+        4 | 5 => {
+            groups[from][at] = other;
+            groups[to][place] = member;
+        }
+        6 => groups.swap(from, to),
+        _ if from != to => {
+            let mut joined = groups[from].split_off(0);
+            groups[to].append(&mut joined);
+        }
+        _ => {}
+    }
+    groups.retain(|group| !group.is_empty());
+}
+
+/// The sheet of these groups, of which one count in some is wrong.
+fn typed_text(numbers: &mut Numbers, groups: &[Vec<usize>]) -> Vec<u8> {
+    let mut wrong = |count: usize| match numbers.below(60) {
+        0 => count + 1,
+        1 => count.saturating_sub(1),
+        2 => *pick(numbers, &[0, 9_999_999]),
+        _ => count,
+    };
+    let mut text = format!("groups {}\n", wrong(groups.len()));
+    for group in groups {
+        text += &format!("size {}\n", wrong(group.len()));
+        for member in group {
+            text += &format!("{member}\n");
+        }
+    }
+    text.into_bytes()
+}
+
 /// One to three damages: of bytes, of numbers, of lines, of length.
 fn damage(numbers: &mut Numbers, text: &mut Vec<u8>, n: usize) {
     for _ in 0..1 + numbers.below(3) {

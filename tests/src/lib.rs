@@ -9,6 +9,8 @@ mod calls;
 #[cfg(test)]
 mod examples;
 #[cfg(test)]
+mod mends;
+#[cfg(test)]
 mod proved;
 #[cfg(test)]
 mod shrunk;

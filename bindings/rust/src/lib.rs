@@ -27,7 +27,7 @@ mod refusal;
 mod table;
 
 pub use refusal::Beside;
-pub use table::{Refusal, BYTES, ENTRIES, LIST_BYTES, NODES, SHEET_BYTES, STACK_BYTES, VERSION};
+pub use table::{Refusal, BYTES, ENTRIES, LIST_BYTES, MEND_BYTES, NODES, SHEET_BYTES, STACK_BYTES, VERSION};
 
 /// A refusal with what is "also returned" beside it: row, line, index or nodes; 0 where there is nothing.
 #[derive(Clone, Copy, Debug, PartialEq, Eq)]
@@ -59,14 +59,14 @@ pub struct Clique {
     pub members: u64,
 }
 
-/// One of the two texts of a check.
+/// One of the two texts of a check or of mending.
 #[derive(Clone, Copy, Debug, PartialEq, Eq)]
 pub enum Text {
     List,
     Sheet,
 }
 
-/// A refused check, and which of the two texts is at fault.
+/// A refused check or mending, and which of the two texts is at fault.
 #[derive(Clone, Copy, Debug, PartialEq, Eq)]
 pub struct Fault {
     pub text: Text,
@@ -283,6 +283,37 @@ pub fn check_sheet_repeats(list: &[u8], sheet: &[u8], colours: &mut [u8]) -> Res
     let (room, lent) = (colours.len(), colours.as_mut_ptr());
     // SAFETY: as in `validity`.
     checked(unsafe { raw::slotsheet_check_sheet_repeats(list.as_ptr(), list.len(), sheet.as_ptr(), sheet.len(), lent, room) })
+}
+
+fn mended(said: raw::Mending) -> Result<usize, Fault> {
+    let text = if said.text == 1 { Text::List } else { Text::Sheet };
+    told_at(said.refusal, said.line as u64, said.column, said.length).map_err(|refused| Fault { text, refused })
+}
+
+/// Puts a hand-edited sheet right: the list's refusals, then the sheet's 18, the first of 30 (by line), 35, 37, and last 19. Drops members that are no entry
+/// or stood before, lifts out those that clash with one kept before in their group, and puts lifted and absent entries into the first group that admits
+/// them. Writes a line "dropped L" for each dropped line, a line "put E group G" for each entry that was put, and the mended sheet, which [`check_sheet`]
+/// accepts; returns the length of all. [`MEND_BYTES`] are enough.
+///
+/// ```
+/// let (list, sheet) = (b"p edge 3 1\ne 1 2\n", b"groups 1\nsize 3\n1\n2\n1\n");
+/// let mut out = [0; 256];
+/// let length = slotsheet::mend_sheet(list, sheet, &mut out).unwrap();
+/// assert_eq!(&out[..length], b"dropped 5\nput 2 group 2\nput 3 group 1\ngroups 2\nsize 2\n1\n3\nsize 1\n2\n");
+/// let fault = slotsheet::mend_sheet(list, b"groups 1\nsize 3\n1\n", &mut out).unwrap_err();
+/// assert_eq!(fault.to_string(), "sheet: line 4: the sheet ends here, before all the groups and entries that it states");
+/// ```
+pub fn mend_sheet(list: &[u8], sheet: &[u8], out: &mut [u8]) -> Result<usize, Fault> {
+    let (room, lent) = (out.len(), out.as_mut_ptr());
+    // SAFETY: as in `validity`.
+    mended(unsafe { raw::slotsheet_mend_sheet(list.as_ptr(), list.len(), sheet.as_ptr(), sheet.len(), lent, room) })
+}
+
+/// The same, and an edge of the list may stand a second time.
+pub fn mend_sheet_repeats(list: &[u8], sheet: &[u8], out: &mut [u8]) -> Result<usize, Fault> {
+    let (room, lent) = (out.len(), out.as_mut_ptr());
+    // SAFETY: as in `validity`.
+    mended(unsafe { raw::slotsheet_mend_sheet_repeats(list.as_ptr(), list.len(), sheet.as_ptr(), sheet.len(), lent, room) })
 }
 
 /// What a part is of its text.

@@ -49,6 +49,15 @@ pub struct Checking {
 }
 
 #[repr(C)]
+pub struct Mending {
+    pub refusal: usize,
+    pub line: usize,
+    pub column: usize,
+    pub length: usize,
+    pub text: usize,
+}
+
+#[repr(C)]
 pub struct Part {
     pub text: usize,
     pub start: usize,
@@ -85,6 +94,22 @@ extern "C" {
     ) -> Checking;
     pub fn slotsheet_fault_line(list: *const u8, list_length: usize, sheet: *const u8, sheet_length: usize, room: usize) -> Part;
     pub fn slotsheet_fault_line_repeats(list: *const u8, list_length: usize, sheet: *const u8, sheet_length: usize, room: usize) -> Part;
+    pub fn slotsheet_mend_sheet(
+        list: *const u8,
+        list_length: usize,
+        sheet: *const u8,
+        sheet_length: usize,
+        out: *mut u8,
+        out_length: usize,
+    ) -> Mending;
+    pub fn slotsheet_mend_sheet_repeats(
+        list: *const u8,
+        list_length: usize,
+        sheet: *const u8,
+        sheet_length: usize,
+        out: *mut u8,
+        out_length: usize,
+    ) -> Mending;
     pub fn slotsheet_answer(text: *const u8, text_length: usize, out: *mut u8, out_length: usize) -> Writing;
     pub fn slotsheet_answer_repeats(text: *const u8, text_length: usize, out: *mut u8, out_length: usize) -> Writing;
 }

@@ -3,7 +3,7 @@
 use crate::refusal::Beside;
 
 /// The version of the interface.
-pub const VERSION: &str = "5.1.0";
+pub const VERSION: &str = "5.2.0";
 /// The most entries of a list.
 pub const ENTRIES: usize = 64;
 /// The most bytes of a text that is read.
@@ -12,6 +12,8 @@ pub const BYTES: usize = 65_536;
 pub const SHEET_BYTES: usize = 641;
 /// No written list is longer.
 pub const LIST_BYTES: usize = 15_576;
+/// No mended sheet with its report is longer.
+pub const MEND_BYTES: usize = 449_161;
 /// The nodes that the walk of the program slotsheet may enter.
 pub const NODES: usize = 1_000_000;
 /// The stack that a thread needs to make any call, with room to spare.

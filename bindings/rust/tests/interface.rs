@@ -43,6 +43,7 @@ fn version_and_limits() {
         ("BYTES", slotsheet::BYTES),
         ("SHEET_BYTES", slotsheet::SHEET_BYTES),
         ("LIST_BYTES", slotsheet::LIST_BYTES),
+        ("MEND_BYTES", slotsheet::MEND_BYTES),
         ("NODES", slotsheet::NODES),
         ("STACK_BYTES", slotsheet::STACK_BYTES),
     ];

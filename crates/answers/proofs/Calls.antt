@@ -64,7 +64,7 @@ printed-alike text =
 
 -- ---- one answer
 
-writes-unique : (x old : List ℕ) (a b : Printed) (new other : List ℕ) → Writes x old a new → Writes x old b other → (a ≡ b) × (new ≡ other)
+pub writes-unique : (x old : List ℕ) (a b : Printed) (new other : List ℕ) → Writes x old a new → Writes x old b other → (a ≡ b) × (new ≡ other)
 writes-unique x old a b new other p q = (p .answer ∙ sym (q .answer), p .lent ∙ sym (q .lent))
 
 pub answer-unique : (plain : Bool) (text old : List ℕ) (a b : Printed) (new other : List ℕ) → AnswerPromise plain text old a new
@@ -73,10 +73,10 @@ pub answer-unique : (plain : Bool) (text old : List ℕ) (a b : Printed) (new ot
 answer-unique plain text = writes-unique (printed plain text)
 
 -- a text that is too long: any will do
-long : (n : ℕ) → List ℕ
+pub long : (n : ℕ) → List ℕ
 long n = replicate n 0
 
-long-enough : (n : ℕ) → longestText < n → longestText < length (long n)
+pub long-enough : (n : ℕ) → longestText < n → longestText < length (long n)
 unfolding long
 long-enough n h = subst (λ (m : ℕ). longestText < m) (sym (length-replicate n 0)) h
 

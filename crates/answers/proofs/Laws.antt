@@ -74,7 +74,7 @@ feed-most false x done n h = omega arith
 feed-most false x (unended l) n h = omega arith
 feed-most false x (ended l t) n h = omega arith
 
-lines-most : (s : List ℕ) → lineCount (linesOf s) ≤ length s
+pub lines-most : (s : List ℕ) → lineCount (linesOf s) ≤ length s
 lines-most [] = omega arith
 lines-most (b ∷ s) = feed-most (eqb b 10) b (linesOf s) (length s) (lines-most s)
 
@@ -97,7 +97,7 @@ named-most t Repeat k h = omega (arith, h .1)
 named-most t Room k h = omega (arith, h .1 .0 .1)
 named-most t Count k h = omega arith
 
-line-told : (r : Refusal) (k : ℕ) → told r k .line ≤ k
+pub line-told : (r : Refusal) (k : ℕ) → told r k .line ≤ k
 line-told r k = go (entry r .beside)
   where
     go : (b : Beside) → with (entry r .number) b k 0 .line ≤ k

@@ -1,2 +1,3 @@
--- What slotsheet prints.
+-- What the programs print.
 pub mod Printed
+pub mod Mended

@@ -1,6 +1,8 @@
-// What slotsheet prints for a clash text: the sheet of its fewest sittings, or the refusal in a line.
+// What the programs print. slotsheet, for a clash text: the sheet of its fewest sittings, or the refusal in a line. mend, for a clash text and a sheet: what was
+// done and the mended sheet, or the refusal in a line.
 use lists::Reading;
 use lists::refusal_of;
+use mends::Mended;
 use refusals::Refusal;
 use refusals::column;
 use refusals::line;
@@ -13,6 +15,7 @@ ghost use lib.ListN.{length};
 ghost use Rattle.clashes.specs.Matrix.{Sound};
 ghost use Rattle.lines.specs.Numeral.{Put};
 ghost use Rattle.answers.specs.Printed.{placeText, refusedText, rowsText, printed, IsText, Fitted, AnswerPromise, LongPromise};
+ghost use Rattle.answers.specs.Mended.{MendedPromise, LongSheetPromise};
 
 // The whole text was written, with its length; or it does not fit, which is document 01's 19.
 pub enum Printed {
@@ -103,4 +106,33 @@ pub fn answer_long(out: &mut [u8]) -> Printed
     ensures { λ r. ⌜ LongPromise (now (out .entry)) r (now (out .exit)) ⌝ }
 {
     fit(refused(number(Refusal::Long), 0, 0), out)
+}
+
+// Writes what mend prints for this clash text and this sheet to the lent bytes: report and mended sheet, or the refusal in a line. Where the list is at fault
+// that is what slotsheet prints for it.
+pub fn mended(list: &[u8], sheet: &[u8], out: &mut [u8], plain: bool) -> Printed
+    ensures { λ r. ⌜ MendedPromise plain (now (list .entry)) (now (sheet .entry)) (now (out .entry)) r (now (out .exit)) ⌝ }
+{
+    let a = mending::mend_sheet(list, sheet, out, plain);
+    match a {
+        Mended::Written(length) => Printed::Length(length),
+        Mended::Unread(_why, _at, _spot) => answer(list, out, plain),
+        Mended::Refused(why, at) => {
+            let r = sheets::refusal_of(why);
+            fit(refused(number(r), line(r, at), 0), out)
+        }
+        Mended::Full => Printed::Full,
+    }
+}
+
+// Writes what mend prints for this clash text and any sheet that is too long to be read, for a caller that has no room for one.
+pub fn mended_long(list: &[u8], out: &mut [u8], plain: bool) -> Printed
+    ensures { λ r. ⌜ LongSheetPromise plain (now (list .entry)) (now (out .entry)) r (now (out .exit)) ⌝ }
+{
+    let found = lists::gather(list, 64, plain);
+    let read = found.answer;
+    match read {
+        Reading::Read(_n) => answer_long(out),
+        Reading::Refused(_why, _at, _spot) => answer(list, out, plain),
+    }
 }

@@ -8,16 +8,17 @@ use Rattle.bounds.specs.Names.{cliqueSet, cliqueBound, mycielskian}
 use Rattle.bounds.specs.Lent.{noMembers}
 use Rattle.zykov.specs.Walk.{boundedWalk, plainWalk}
 use Rattle.shrink.specs.Shrunk.{shrunkWalk}
-use Rattle.sittings.specs.Numbers.{verdictNumbers, boundNumbers, walkNumbers, readNumbers, listNumbers, sheetNumbers, checkNumbers, partNumbers, printedNumbers}
+use Rattle.sittings.specs.Numbers.{verdictNumbers, boundNumbers, walkNumbers, readNumbers, listNumbers, sheetNumbers, checkNumbers, mendNumbers, partNumbers, printedNumbers}
 use Rattle.sittings.specs.declared.numbers.VerdictNumbers.{VerdictNumbers}
 use Rattle.sittings.specs.declared.numbers.BoundNumbers.{BoundNumbers}
 use Rattle.sittings.specs.declared.numbers.WalkNumbers.{WalkNumbers}
 use Rattle.sittings.specs.declared.numbers.ReadNumbers.{ReadNumbers}
 use Rattle.sittings.specs.declared.numbers.WriteNumbers.{WriteNumbers}
 use Rattle.sittings.specs.declared.numbers.CheckNumbers.{CheckNumbers}
+use Rattle.sittings.specs.declared.numbers.MendNumbers.{MendNumbers}
 use Rattle.sittings.specs.declared.numbers.PartNumbers.{PartNumbers}
 use Rattle.sittings.proofs.Unique as face
-use Rattle.capi.specs.Calls.{ValidityCall, BoundCall, WalkCall, PlacingCall, ReadCall, ListCall, SheetCall, CheckCall, PartCall, AnswerCall}
+use Rattle.capi.specs.Calls.{ValidityCall, BoundCall, WalkCall, PlacingCall, ReadCall, ListCall, SheetCall, CheckCall, MendCall, PartCall, AnswerCall}
 
 -- the two laws, over any numbers f of answers: one answer has one set of numbers, and the lent memory is as the answer leaves it
 numbers-unique : {A R : Type 0} (f : A → R) {a b : A} {r q : R} → r ≡ f a → q ≡ f b → a ≡ b → r ≡ q
@@ -87,6 +88,12 @@ pub check-sheet-unique : (plain : Bool) (list sheet old : List ℕ) (r q : Check
     → (r ≡ q) × (new ≡ other)
 check-sheet-unique plain list sheet old r q new other x y =
     call-unique checkNumbers (x .numbers) (y .numbers) (face.check-sheet-unique plain list sheet old (x .answer) (y .answer) new other (x .promised) (y .promised))
+
+pub mend-sheet-unique : (plain : Bool) (list sheet old : List ℕ) (r q : MendNumbers) (new other : List ℕ) → MendCall plain list sheet old r new
+    → MendCall plain list sheet old q other
+    → (r ≡ q) × (new ≡ other)
+mend-sheet-unique plain list sheet old r q new other x y =
+    call-unique mendNumbers (x .numbers) (y .numbers) (face.mend-sheet-unique plain list sheet old (x .answer) (y .answer) new other (x .promised) (y .promised))
 
 pub answer-unique : (plain : Bool) (text old : List ℕ) (r q : WriteNumbers) (new other : List ℕ) → AnswerCall plain text old r new
     → AnswerCall plain text old q other

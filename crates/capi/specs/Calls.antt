@@ -1,6 +1,6 @@
 -- What a call from C promises: the numbers of an answer that meets the face's promise, and the lent memory as that leaves it.
 --
---   ValidityCall, BoundCall, WalkCall, PlacingCall, ReadCall, ListCall, SheetCall, CheckCall, PartCall, AnswerCall : one for each kind of call; `plain` says by
+--   ValidityCall, BoundCall, WalkCall, PlacingCall, ReadCall, ListCall, SheetCall, CheckCall, MendCall, PartCall, AnswerCall : one for each kind of call; `plain` says by
 --   which reading a clash text is read
 --
 -- Assumes nothing.
@@ -25,16 +25,19 @@ use Rattle.sheets.specs.Promise.{CheckPromise}
 use Rattle.sheets.specs.Place.{PlacePromise}
 use Rattle.sheets.specs.declared.Checked.{Checked}
 use Rattle.sheets.specs.declared.Part.{Part}
+use Rattle.mends.specs.Promise.{MendPromise}
+use Rattle.mends.specs.declared.Mended.{Mended}
 use Rattle.answers.specs.Printed.{AnswerPromise}
 use Rattle.answers.specs.declared.Printed.{Printed}
 use Rattle.sittings.specs.Placing.{PlacingPromise}
-use Rattle.sittings.specs.Numbers.{verdictNumbers, boundNumbers, walkNumbers, readNumbers, listNumbers, sheetNumbers, checkNumbers, partNumbers, printedNumbers}
+use Rattle.sittings.specs.Numbers.{verdictNumbers, boundNumbers, walkNumbers, readNumbers, listNumbers, sheetNumbers, checkNumbers, mendNumbers, partNumbers, printedNumbers}
 use Rattle.sittings.specs.declared.numbers.VerdictNumbers.{VerdictNumbers}
 use Rattle.sittings.specs.declared.numbers.BoundNumbers.{BoundNumbers}
 use Rattle.sittings.specs.declared.numbers.WalkNumbers.{WalkNumbers}
 use Rattle.sittings.specs.declared.numbers.ReadNumbers.{ReadNumbers}
 use Rattle.sittings.specs.declared.numbers.WriteNumbers.{WriteNumbers}
 use Rattle.sittings.specs.declared.numbers.CheckNumbers.{CheckNumbers}
+use Rattle.sittings.specs.declared.numbers.MendNumbers.{MendNumbers}
 use Rattle.sittings.specs.declared.numbers.PartNumbers.{PartNumbers}
 
 pub record ValidityCall (rows : List ℕ) (r : VerdictNumbers) : Type 0 where
@@ -76,6 +79,11 @@ pub record CheckCall (plain : Bool) (list sheet old : List ℕ) (r : CheckNumber
   pub answer : Checked
   pub promised : CheckPromise plain list sheet old answer new
   pub numbers : r ≡ checkNumbers answer
+
+pub record MendCall (plain : Bool) (list sheet old : List ℕ) (r : MendNumbers) (new : List ℕ) : Type 0 where
+  pub answer : Mended
+  pub promised : MendPromise plain list sheet old answer new
+  pub numbers : r ≡ mendNumbers answer
 
 pub record PartCall (plain : Bool) (list sheet : List ℕ) (room : ℕ) (r : PartNumbers) : Type 0 where
   pub answer : Part

@@ -2,6 +2,7 @@
 // and a length. A call whose name ends in `repeats` reads a clash text with repeats allowed. include/slotsheet.h declares these.
 use sittings::numbers::BoundNumbers;
 use sittings::numbers::CheckNumbers;
+use sittings::numbers::MendNumbers;
 use sittings::numbers::PartNumbers;
 use sittings::numbers::ReadNumbers;
 use sittings::numbers::VerdictNumbers;
@@ -12,7 +13,7 @@ ghost use Rattle.bounds.specs.Names.{cliqueSet, cliqueBound, mycielskian};
 ghost use Rattle.bounds.specs.Lent.{noMembers};
 ghost use Rattle.zykov.specs.Walk.{boundedWalk, plainWalk};
 ghost use Rattle.shrink.specs.Shrunk.{shrunkWalk};
-ghost use Rattle.capi.specs.Calls.{ValidityCall, BoundCall, WalkCall, PlacingCall, ReadCall, ListCall, SheetCall, CheckCall, PartCall, AnswerCall};
+ghost use Rattle.capi.specs.Calls.{ValidityCall, BoundCall, WalkCall, PlacingCall, ReadCall, ListCall, SheetCall, CheckCall, MendCall, PartCall, AnswerCall};
 
 #[no_mangle]
 pub extern "C" fn slotsheet_validity(rows: &[u64]) -> VerdictNumbers
@@ -152,6 +153,26 @@ pub extern "C" fn slotsheet_fault_line_repeats(
 {
     let a = sittings::fault_part_repeats(list, sheet, room);
     sittings::numbers::of_part(a)
+}
+
+#[no_mangle]
+pub extern "C" fn slotsheet_mend_sheet(list: &[u8], sheet: &[u8], out: &mut [u8]) -> MendNumbers
+    ensures { λ r. ⌜ MendCall true (now (list .entry)) (now (sheet .entry)) (now (out .entry)) r (now (out .exit)) ⌝ }
+{
+    let a = sittings::mend_sheet(list, sheet, out);
+    sittings::numbers::of_mending(a)
+}
+
+#[no_mangle]
+pub extern "C" fn slotsheet_mend_sheet_repeats(
+    list: &[u8],
+    sheet: &[u8],
+    out: &mut [u8],
+) -> MendNumbers
+    ensures { λ r. ⌜ MendCall false (now (list .entry)) (now (sheet .entry)) (now (out .entry)) r (now (out .exit)) ⌝ }
+{
+    let a = sittings::mend_sheet_repeats(list, sheet, out);
+    sittings::numbers::of_mending(a)
 }
 
 #[no_mangle]

@@ -86,7 +86,7 @@ const LIST: usize = 1;
 const SHEET: usize = 2;
 
 // The number behind the word `w`, where the two are the whole line.
-fn behind(s: &[u8], w: &[u8]) -> lines::Alone
+pub fn behind(s: &[u8], w: &[u8]) -> lines::Alone
     ensures { λ r. ⌜ r ≡ behindOf (now (w .entry)) (now (s .entry)) ⌝ }
 {
     if lines::begins(s, w) {

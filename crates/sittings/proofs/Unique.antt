@@ -30,9 +30,14 @@ use Rattle.sheets.specs.declared.Checked.{Checked}
 use Rattle.sheets.specs.declared.Part.{Part}
 use Rattle.sheets.proofs.Unique as sheets
 use Rattle.sheets.proofs.Places as places
+use Rattle.mends.specs.Promise.{MendPromise}
+use Rattle.mends.specs.declared.Mended.{Mended}
+use Rattle.mends.proofs.Unique as mends
 use Rattle.answers.specs.Printed.{AnswerPromise, LongPromise}
+use Rattle.answers.specs.Mended.{MendedPromise, LongSheetPromise}
 use Rattle.answers.specs.declared.Printed.{Printed}
 use Rattle.answers.proofs.Calls as answers
+use Rattle.answers.proofs.MendCalls as mended
 use Rattle.sittings.specs.Placing.{PlacingPromise}
 use Rattle.sittings.proofs.Engines.{placing-unique}
 
@@ -100,6 +105,10 @@ pub shown-fault-part : (plain : Bool) (list sheet : RefT (List ℕ)) (room : ℕ
     → places.At (places.holder list sheet p) p r → PreviewPromise plain list sheet room r
 shown-fault-part plain list sheet room r p = places.shown-place plain list sheet room r p
 
+pub mend-sheet-unique : (plain : Bool) (list sheet old : List ℕ) (a b : Mended) (new other : List ℕ) → MendPromise plain list sheet old a new
+    → MendPromise plain list sheet old b other → (a ≡ b) × (new ≡ other)
+mend-sheet-unique = mends.mend-unique
+
 pub answer-unique : (plain : Bool) (text old : List ℕ) (a b : Printed) (new other : List ℕ) → AnswerPromise plain text old a new
     → AnswerPromise plain text old b other
     → (a ≡ b) × (new ≡ other)
@@ -107,3 +116,11 @@ answer-unique = answers.answer-unique
 
 pub answer-long-unique : (old : List ℕ) (a b : Printed) (new other : List ℕ) → LongPromise old a new → LongPromise old b other → (a ≡ b) × (new ≡ other)
 answer-long-unique = answers.long-unique
+
+pub mend-answer-unique : (plain : Bool) (list sheet old : List ℕ) (a b : Printed) (new other : List ℕ) → MendedPromise plain list sheet old a new
+    → MendedPromise plain list sheet old b other → (a ≡ b) × (new ≡ other)
+mend-answer-unique = mended.mended-unique
+
+pub mend-answer-long-unique : (plain : Bool) (list old : List ℕ) (a b : Printed) (new other : List ℕ) → LongSheetPromise plain list old a new
+    → LongSheetPromise plain list old b other → (a ≡ b) × (new ≡ other)
+mend-answer-long-unique = mended.long-sheet-unique

@@ -8,6 +8,7 @@
 --   listNumbers    : of writing a list
 --   sheetNumbers   : of writing a sheet
 --   checkNumbers   : of checking a sheet
+--   mendNumbers    : of mending a sheet
 --   partNumbers    : of the place of the line at fault
 --   printedNumbers : of writing what slotsheet prints
 --
@@ -30,6 +31,8 @@ use Rattle.sheet_texts.specs.declared.Written as sheet
 use Rattle.sheets.specs.Promise as sheets
 use Rattle.sheets.specs.declared.Checked.{Checked}
 use Rattle.sheets.specs.declared.Part.{Part}
+use Rattle.mends.specs.Promise as mends
+use Rattle.mends.specs.declared.Mended.{Mended}
 use Rattle.answers.specs.declared.Printed.{Printed}
 use Rattle.answers.specs.declared.Printed.the-variants.{Length, Full}
 use Rattle.sittings.specs.declared.numbers.VerdictNumbers.{VerdictNumbers}
@@ -38,6 +41,7 @@ use Rattle.sittings.specs.declared.numbers.WalkNumbers.{WalkNumbers}
 use Rattle.sittings.specs.declared.numbers.ReadNumbers.{ReadNumbers}
 use Rattle.sittings.specs.declared.numbers.WriteNumbers.{WriteNumbers}
 use Rattle.sittings.specs.declared.numbers.CheckNumbers.{CheckNumbers}
+use Rattle.sittings.specs.declared.numbers.MendNumbers.{MendNumbers}
 use Rattle.sittings.specs.declared.numbers.PartNumbers.{PartNumbers}
 
 abbrev pub verdictNumbers : Verdict → VerdictNumbers
@@ -83,6 +87,15 @@ checkNumbers a = record {
   column = sheets.numbersOf a .column;
   groups = sheets.numbersOf a .groups;
   text = sheets.numbersOf a .text;
+}
+
+abbrev pub mendNumbers : Mended → MendNumbers
+mendNumbers a = record {
+  refusal = mends.numbersOf a .number;
+  line = mends.numbersOf a .line;
+  column = mends.numbersOf a .column;
+  length = mends.numbersOf a .length;
+  text = mends.numbersOf a .text;
 }
 
 abbrev pub partNumbers : Part → PartNumbers

@@ -6,6 +6,7 @@ use bounds::Bound;
 use bounds::clique_of;
 use clashes::Verdict;
 use lists::Reading;
+use mends::Mended;
 use sheets::Checked;
 use walk::Answer;
 ghost use mathlib.Core.Bool.{true, false};
@@ -20,7 +21,9 @@ ghost use Rattle.lists.specs.Promise.{ReadPromise, WritePromise};
 ghost use Rattle.sheet_texts.specs.Promise.{WritePromise as SheetPromise};
 ghost use Rattle.sheets.specs.Promise.{CheckPromise, PreviewPromise};
 ghost use Rattle.sheets.specs.Place.{PlacePromise};
+ghost use Rattle.mends.specs.Promise.{MendPromise};
 ghost use Rattle.answers.specs.Printed.{AnswerPromise, LongPromise};
+ghost use Rattle.answers.specs.Mended.{MendedPromise, LongSheetPromise};
 
 pub mod numbers;
 
@@ -149,6 +152,20 @@ pub fn fault_part_repeats(list: &[u8], sheet: &[u8], room: usize) -> sheets::Par
     sheets::fault_part(list, sheet, room, false)
 }
 
+// Puts a hand-edited sheet right for a clash text: writes to the lent bytes which lines were dropped and which entries were put into which group, and then the
+// mended sheet.
+pub fn mend_sheet(list: &[u8], sheet: &[u8], out: &mut [u8]) -> Mended
+    ensures { λ r. ⌜ MendPromise true (now (list .entry)) (now (sheet .entry)) (now (out .entry)) r (now (out .exit)) ⌝ }
+{
+    mending::mend_sheet(list, sheet, out, true)
+}
+
+pub fn mend_sheet_repeats(list: &[u8], sheet: &[u8], out: &mut [u8]) -> Mended
+    ensures { λ r. ⌜ MendPromise false (now (list .entry)) (now (sheet .entry)) (now (out .entry)) r (now (out .exit)) ⌝ }
+{
+    mending::mend_sheet(list, sheet, out, false)
+}
+
 // Writes what slotsheet prints for a clash text to the lent bytes: the sheet of its fewest sittings, by a walk with a budget of 1,000,000, or
 // "refused R line L" and a line feed, with " column C" before it where there is a column.
 pub fn answer(text: &[u8], out: &mut [u8]) -> Printed
@@ -168,4 +185,31 @@ pub fn answer_long(out: &mut [u8]) -> Printed
     ensures { λ r. ⌜ LongPromise (now (out .entry)) r (now (out .exit)) ⌝ }
 {
     answers::answer_long(out)
+}
+
+// Writes what mend prints for a clash text and a sheet to the lent bytes: what `mend_sheet` writes, or "refused R line L" and a line feed, with " column C"
+// before it where there is a column.
+pub fn mend_answer(list: &[u8], sheet: &[u8], out: &mut [u8]) -> Printed
+    ensures { λ r. ⌜ MendedPromise true (now (list .entry)) (now (sheet .entry)) (now (out .entry)) r (now (out .exit)) ⌝ }
+{
+    answers::mended(list, sheet, out, true)
+}
+
+pub fn mend_answer_repeats(list: &[u8], sheet: &[u8], out: &mut [u8]) -> Printed
+    ensures { λ r. ⌜ MendedPromise false (now (list .entry)) (now (sheet .entry)) (now (out .entry)) r (now (out .exit)) ⌝ }
+{
+    answers::mended(list, sheet, out, false)
+}
+
+// The same for any sheet that is too long to be read, without it: the clash text's own refusal comes first.
+pub fn mend_answer_long(list: &[u8], out: &mut [u8]) -> Printed
+    ensures { λ r. ⌜ LongSheetPromise true (now (list .entry)) (now (out .entry)) r (now (out .exit)) ⌝ }
+{
+    answers::mended_long(list, out, true)
+}
+
+pub fn mend_answer_long_repeats(list: &[u8], out: &mut [u8]) -> Printed
+    ensures { λ r. ⌜ LongSheetPromise false (now (list .entry)) (now (out .entry)) r (now (out .exit)) ⌝ }
+{
+    answers::mended_long(list, out, false)
 }

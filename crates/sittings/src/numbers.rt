@@ -4,6 +4,7 @@ use bounds::Bound;
 use clashes::Verdict;
 use lists::Reading;
 use lists::refusal_of;
+use mends::Mended;
 use refusals::Refusal;
 use refusals::column;
 use refusals::line;
@@ -11,7 +12,7 @@ use refusals::number;
 use sheets::Checked;
 use walk::Answer;
 ghost use mathlib.Core.Path.{_≡_};
-ghost use Rattle.sittings.specs.Numbers.{verdictNumbers, refusedBound, boundNumbers, refusedWalk, walkNumbers, readNumbers, listNumbers, sheetNumbers, checkNumbers, partNumbers, printedNumbers};
+ghost use Rattle.sittings.specs.Numbers.{verdictNumbers, refusedBound, boundNumbers, refusedWalk, walkNumbers, readNumbers, listNumbers, sheetNumbers, checkNumbers, mendNumbers, partNumbers, printedNumbers};
 
 #[repr(C)]
 pub struct VerdictNumbers {
@@ -39,7 +40,7 @@ pub struct WalkNumbers {
     pub clique: u64,
 }
 
-// `column` is 0 unless the refusal is one of a line's shape: 10, 21, 22 or 23. So in `CheckNumbers`.
+// `column` is 0 unless the refusal is one of a line's shape: 10, 21, 22 or 23. So in `CheckNumbers` and `MendNumbers`.
 #[repr(C)]
 pub struct ReadNumbers {
     pub refusal: usize,
@@ -63,6 +64,16 @@ pub struct CheckNumbers {
     pub line: usize,
     pub column: usize,
     pub groups: usize,
+    pub text: usize,
+}
+
+// `text` as in `CheckNumbers`; `length` is that of report and mended sheet together.
+#[repr(C)]
+pub struct MendNumbers {
+    pub refusal: usize,
+    pub line: usize,
+    pub column: usize,
+    pub length: usize,
     pub text: usize,
 }
 
@@ -241,6 +252,19 @@ pub fn of_check(a: Checked) -> CheckNumbers
         line: n.line,
         column: n.column,
         groups: n.groups,
+        text: n.text,
+    }
+}
+
+pub fn of_mending(a: Mended) -> MendNumbers
+    ensures { λ r. ⌜ r ≡ mendNumbers a ⌝ }
+{
+    let n = mending::numbers_of(a);
+    MendNumbers {
+        refusal: n.number,
+        line: n.line,
+        column: n.column,
+        length: n.length,
         text: n.text,
     }
 }

@@ -1,0 +1,11 @@
+pub mod Groups
+pub mod Sorted
+pub mod Seen
+pub mod MendedLaws
+pub mod Passing
+pub mod Retyped
+pub mod Sheets
+pub mod Unique
+pub mod Calls
+pub mod Demands
+pub mod Examples

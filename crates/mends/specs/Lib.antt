@@ -1,0 +1,4 @@
+pub mod Typed
+pub mod Mend
+pub mod Report
+pub mod Promise
