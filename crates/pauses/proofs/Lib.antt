@@ -1,0 +1,10 @@
+-- The theorems.
+pub mod PathLaws
+pub mod FromLaws
+pub mod KeepingLaws
+pub mod CallLaws
+pub mod BestLaws
+pub mod Steps
+pub mod MarkLaws
+pub mod BlockLaws
+pub mod Demands
