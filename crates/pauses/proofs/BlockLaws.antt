@@ -1,14 +1,15 @@
 -- The block: how long it is; that it reads back as the place that it was written for, whatever stands after it; and that what a place does not use is not
 -- looked at. Assumes nothing.
 use mathlib.Core.Path.{_≡_, refl, sym, ap, ap₂, _∙_, subst}
-use mathlib.Core.Bool.{Bool}
-use mathlib.Core.List.{List, _∷_, _++_, append-assoc}
-use Prim.Native.Nat.{ℕ, zero, suc, _+_, _*_, _-_, _/_, _≤_, _<_}
+use mathlib.Core.Bool.{Bool, true, _&&_}
+use mathlib.Core.List.{List, [], _∷_, _++_, append-assoc}
+use Prim.Native.Nat.{ℕ, zero, suc, _+_, _*_, _-_, _/_, _≤_, _<_, max}
 use native.Mathlib.Omega.{arith}
-use lib.Dec.{T}
+use lib.Dec.{T, leb, eqb, leb→le, le→leb, eqb→eq}
 use lib.ListN.{length, getD, take, drop, replicate, length-append, length-drop, length-replicate}
 use lib.Seq.{take-at, drop-at, ext-getD, length-take-le, getD-take, getD-drop}
-use Rattle.clashes.specs.Divisions.{Division, clashFree}
+use Rattle.sets.proofs.TestLaws.{and-l, and-r, and-t, eqb-of}
+use Rattle.clashes.specs.Divisions.{Canon, Division, clashFree}
 use Rattle.clashes.specs.Matrix.{Valid}
 use Rattle.graphs.specs.Graph.{graph}
 use Rattle.graphs.proofs.SplitLaws.{good-graph}
@@ -17,7 +18,7 @@ use Rattle.zykov.specs.Walk.{State}
 use Rattle.pauses.specs.Path.{Path, isPath}
 use Rattle.pauses.specs.Marks.{decisions, marksOf}
 use Rattle.pauses.specs.Keeping.{stopped}
-use Rattle.pauses.specs.Block.{pathNumbers, blockLength, block, nodesIn, deepIn, bestIn, marksIn, pathIn, stateIn, placeIn, Legible, Place, Agree}
+use Rattle.pauses.specs.Block.{pathNumbers, blockLength, block, nameIn, nodesIn, deepIn, bestIn, marksIn, pathIn, stateIn, placeIn, Legible, isNumbered, isLegible, Place, Agree}
 use Rattle.pauses.proofs.PathLaws.{path-short}
 use Rattle.pauses.proofs.MarkLaws.{marks-long, marks-back, decisions-same}
 
@@ -105,17 +106,64 @@ block-legible most top n clash v few s p k rest = record {
 pub legible-place : (most top n : ℕ) (clash : ℕ → ℕ → Bool) (b : List ℕ) → Legible most n clash b → nodesIn b ≤ top → Place top n clash (stateIn n b) (pathIn most b)
 legible-place most top n clash b k fits = record { path = k .path; division = k .division; free = k .free; fits = fits }
 
+-- ---- computed
+
+pub numbered-is : (m : ℕ) (c : List ℕ) → T (isNumbered m c) → Canon m c
+numbered-is m [] t = tt
+numbered-is m (k ∷ c) t =
+    (leb→le k m (and-l (leb k m) (isNumbered (max m (suc k)) c) t), numbered-is (max m (suc k)) c (and-r (leb k m) (isNumbered (max m (suc k)) c) t))
+
+pub is-numbered : (m : ℕ) (c : List ℕ) → Canon m c → T (isNumbered m c)
+is-numbered m [] h = tt
+is-numbered m (k ∷ c) h = and-t (leb k m) (isNumbered (max m (suc k)) c) (le→leb k m (h .0)) (is-numbered (max m (suc k)) c (h .1))
+
+best-long : (most n : ℕ) (b : List ℕ) → n ≤ most → blockLength most ≤ length b → length (bestIn n b) ≡ n
+best-long most n b few h = length-take-le n (drop 3 b) (omega (arith, length-drop 3 b))
+
+module _ (most n : ℕ) (clash : ℕ → ℕ → Bool) (b : List ℕ) where
+  abbrev long : Bool
+  long = leb (blockLength most) (length b)
+
+  abbrev names : Bool
+  names = eqb (nameIn b) n
+
+  abbrev numbers : Bool
+  numbers = isNumbered 0 (bestIn n b)
+
+  abbrev frees : Bool
+  frees = clashFree n clash (bestIn n b)
+
+  abbrev leads : Bool
+  leads = isPath (zykov n clash) (pathIn most b)
+
+  pub legible-is : n ≤ most → T (isLegible most n clash b) → Legible most n clash b
+  legible-is few t =
+      let a = and-r long (names && (numbers && (frees && leads))) t in
+      let c = and-r names (numbers && (frees && leads)) a in
+      let d = and-r numbers (frees && leads) c in
+      let e : blockLength most ≤ length b = leb→le (blockLength most) (length b) (and-l long (names && (numbers && (frees && leads))) t) in
+      record {
+        enough = e;
+        named = eqb→eq (nameIn b) n (and-l names (numbers && (frees && leads)) a);
+        division = record { numbered = numbered-is 0 (bestIn n b) (and-l numbers (frees && leads) c); long = best-long most n b few e };
+        free = and-l frees leads d;
+        path = and-r frees leads d;
+      }
+
+  pub is-legible : Legible most n clash b → T (isLegible most n clash b)
+  is-legible k =
+      and-t long (names && (numbers && (frees && leads))) (le→leb (blockLength most) (length b) (k .enough))
+      (and-t names (numbers && (frees && leads)) (eqb-of (nameIn b) n (k .named))
+      (and-t numbers (frees && leads) (is-numbered 0 (bestIn n b) (k .division .numbered)) (and-t frees leads (k .free) (k .path))))
+
 -- ---- what is not used is not looked at
 
 module _ (most n : ℕ) (b b′ : List ℕ) (few : n ≤ most) (same : Agree most n b b′) (enough : blockLength most ≤ length b) (enough′ : blockLength most ≤ length b′) where
   best-same : bestIn n b ≡ bestIn n b′
   best-same =
-      ext-getD zero (bestIn n b) (bestIn n b′) (long b enough ∙ sym (long b′ enough′))
-      (λ i h. let l : i < n = omega (arith, long b enough) in at b i l ∙ same .groups i l ∙ sym (at b′ i l))
+      ext-getD zero (bestIn n b) (bestIn n b′) (best-long most n b few enough ∙ sym (best-long most n b′ few enough′))
+      (λ i h. let l : i < n = omega (arith, best-long most n b few enough) in at b i l ∙ same .groups i l ∙ sym (at b′ i l))
     where
-      long : (x : List ℕ) → blockLength most ≤ length x → length (bestIn n x) ≡ n
-      long x h = length-take-le n (drop 3 x) (omega (arith, length-drop 3 x))
-
       at : (x : List ℕ) (i : ℕ) → i < n → getD (bestIn n x) i zero ≡ getD x (3 + i) zero
       at x i l = getD-take n (drop 3 x) i zero l ∙ getD-drop 3 x i zero
 

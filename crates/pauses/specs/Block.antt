@@ -14,15 +14,16 @@
 --   nameIn, nodesIn, deepIn, bestIn, pathIn : what a block says: n, nodes, how many decisions, best division, path. Nothing else of it is looked at
 --   stateIn, placeIn    : the state and the place that it says. A block has no complete graphs: the bounded walk counts none
 --   Legible             : b can be gone on from, for this list: none of the causes of refusal 8
+--   isNumbered, isLegible : numbered by first use (`Canon`), and Legible, computed
 --   Place top n clash s p : a place of the walk over a list that one can go on from: a path, a clash-free division, and nodes that fit
 --   Agree most n b b′   : the two say the same: what a block of n entries does not use, and what stands past its length, may differ
 --
 -- Assumes nothing.
 use mathlib.Core.Path.{_≡_}
-use mathlib.Core.Bool.{Bool}
-use mathlib.Core.List.{List, _∷_, _++_}
-use Prim.Native.Nat.{ℕ, zero, _+_, _*_, _-_, _/_, _≤_, _<_}
-use lib.Dec.{T}
+use mathlib.Core.Bool.{Bool, true, _&&_}
+use mathlib.Core.List.{List, [], _∷_, _++_}
+use Prim.Native.Nat.{ℕ, zero, suc, _+_, _*_, _-_, _/_, _≤_, _<_, max}
+use lib.Dec.{T, leb, eqb}
 use lib.ListN.{length, getD, take, drop, replicate}
 use Rattle.clashes.specs.Divisions.{Division, clashFree}
 use Rattle.zykov.specs.Tree.{zykov}
@@ -76,6 +77,15 @@ pub record Legible (most n : ℕ) (clash : ℕ → ℕ → Bool) (b : List ℕ) 
   pub division : Division n (bestIn n b)
   pub free : T (clashFree n clash (bestIn n b))
   pub path : T (isPath (zykov n clash) (pathIn most b))
+
+abbrev pub isNumbered : ℕ → List ℕ → Bool
+isNumbered m [] = true
+isNumbered m (k ∷ c) = leb k m && isNumbered (max m (suc k)) c
+
+abbrev pub isLegible : ℕ → ℕ → (ℕ → ℕ → Bool) → List ℕ → Bool
+isLegible most n clash b =
+    leb (blockLength most) (length b)
+    && (eqb (nameIn b) n && (isNumbered 0 (bestIn n b) && (clashFree n clash (bestIn n b) && isPath (zykov n clash) (pathIn most b))))
 
 -- ---- a place, and what a block does not use
 
