@@ -1,0 +1,2 @@
+-- What the calls that keep their place promise comes to.
+pub mod PromiseLaws

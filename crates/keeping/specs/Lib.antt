@@ -1,0 +1,2 @@
+-- What the two calls that keep their place promise.
+pub mod Promise
