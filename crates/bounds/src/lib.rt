@@ -7,10 +7,13 @@ use graphs::root;
 use mycielski::bound_among;
 use mycielski::bound_up_to;
 use sets::size;
+use wide::Set;
 ghost use mathlib.Core.Path.{_≡_};
 ghost use lib.Dec.{leb};
+ghost use lib.ListN.{length};
+ghost use Rattle.wide.specs.Words.{num, rowsOf};
 ghost use Rattle.clashes.specs.Matrix.{Sound};
-ghost use Rattle.graphs.specs.Held.{view, Held, Holds, Each};
+ghost use Rattle.graphs.specs.Held.{view, Held, Holds, Each, HoldsAt, EachAt};
 ghost use Rattle.bounds.specs.Names.{cliqueSet, cliqueBound, mycielskian};
 ghost use Rattle.bounds.specs.Lent.{ofList, answerOf, noMembers, Answers};
 
@@ -41,7 +44,7 @@ pub fn mycielskian_at(h: Node) -> usize
 }
 
 // Is the Mycielskian bound of lent rows not below `best`? It ends as soon as that is known: fewer live vertices than `best` need no clique.
-pub fn reaches(live: u64, rows: &[u64; 64], best: usize) -> bool
+pub fn reaches(live: u64, rows: &[u64], best: usize) -> bool
     requires { ⌜ Holds live (now rows) ⌝ }
     ensures { λ r. ⌜ Each live (now (rows .entry)) (λ h. r ≡ leb best (mycielskian (h .n) (view h))) ⌝ }
 {
@@ -49,6 +52,18 @@ pub fn reaches(live: u64, rows: &[u64; 64], best: usize) -> bool
         return false;
     }
     best <= bound_among(live, rows, best)
+}
+
+// The same of lent rows of four words.
+pub fn reaches_wide(live: Set, rows: &[u64], best: usize) -> bool
+    requires { ⌜ length (now rows) ≡ 1024 ⌝ }
+    requires { ⌜ HoldsAt 256 (num live) (rowsOf 4 256 (now rows)) ⌝ }
+    ensures { λ r. ⌜ EachAt 256 (num live) (rowsOf 4 256 (now (rows .entry))) (λ h. r ≡ leb best (mycielskian (h .n) (view h))) ⌝ }
+{
+    if wide::size(live) < best {
+        return false;
+    }
+    best <= wide_mycielski::bound_among(live, rows, best)
 }
 
 // The answer for rows that are no list, which has no bound.

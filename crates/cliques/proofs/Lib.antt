@@ -2,6 +2,6 @@
 pub mod ListLaws
 pub mod CliqueLaws
 pub mod ScanLaws
-mod ChainLaws
+pub mod ChainLaws
 pub mod WordLaws
-mod HuntLaws
+pub mod HuntLaws

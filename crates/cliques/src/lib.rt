@@ -21,7 +21,7 @@ pub struct Growth {
 }
 
 // c grown by the vertices of `left`, lowest first: each that is still adjacent to all of c.
-pub fn grow(rows: &[u64; 64], c: Growth, left: u64) -> Growth
+pub fn grow(rows: &[u64], c: Growth, left: u64) -> Growth
     requires { ⌜ ((l : ℕ) × Within (c .near) l × Holds l (now rows)) ⌝ }
     requires { ⌜ Within left (c .near) ⌝ }
     ensures { λ r. ⌜ ((l : ℕ) → Within (c .near) l → Each l (now (rows .entry)) (λ h. Grows (h .n) (view h) left c r)) ⌝ }
@@ -43,7 +43,7 @@ pub fn grow(rows: &[u64; 64], c: Growth, left: u64) -> Growth
 }
 
 // The clique that s opens: it grows along the live vertices after s.
-pub fn opened(live: u64, rows: &[u64; 64], s: usize) -> Growth
+pub fn opened(live: u64, rows: &[u64], s: usize) -> Growth
     requires { ⌜ Holds live (now rows) ⌝ }
     requires { ⌜ s < 64 ⌝ }
     requires { ⌜ T (has live s) ⌝ }
@@ -60,7 +60,7 @@ pub fn opened(live: u64, rows: &[u64; 64], s: usize) -> Growth
 // The clique of lent rows, or a clique on the way to it that has as many members as are enough. The next opener is the lowest vertex in no clique
 // yet; each clique grows along the vertices after its opener, and then along all; the first that is the largest stays. Where all that a clique
 // admits would not make it the largest, it does not grow.
-pub fn clique_among(live: u64, rows: &[u64; 64], enough: usize) -> u64
+pub fn clique_among(live: u64, rows: &[u64], enough: usize) -> u64
     requires { ⌜ Holds live (now rows) ⌝ }
     ensures { λ r. ⌜ Each live (now (rows .entry)) (λ h. Reaches (h .n) (view h) enough r) ⌝ }
 {

@@ -6,7 +6,9 @@ use sets::less;
 use sets::lowest;
 use sets::meet;
 use sets::rest;
+ghost use mathlib.Core.Path.{_≡_};
 ghost use Prim.Native.Nat.{_<_};
+ghost use lib.ListN.{length};
 ghost use Rattle.counts.specs.Counts.{Counted, IsMost, IsAtLeast};
 ghost use Rattle.counts.specs.Steps.{IsHalf, IsSum, IsPulled, Fits, Absorbed, IsNarrowed, IsBorrowed};
 
@@ -59,7 +61,8 @@ fn add(a: u64, b: u64, c: u64) -> Sum
 }
 
 // The row of the lowest member; an empty one, which changes no count, where there is none.
-fn pull(rows: &[u64; 64], left: u64) -> Pulled
+fn pull(rows: &[u64], left: u64) -> Pulled
+    requires { ⌜ length (now rows) ≡ 64 ⌝ }
     ensures { λ r. ⌜ IsPulled (now (rows .entry)) left r ⌝ }
 {
     if left == 0 {
@@ -98,7 +101,8 @@ fn absorb(c: Counts, p: u64, q: u64, r: u64, s: u64) -> Counts
 }
 
 // In how many rows of near's members each number is.
-pub fn counted(rows: &[u64; 64], near: u64) -> Counts
+pub fn counted(rows: &[u64], near: u64) -> Counts
+    requires { ⌜ length (now rows) ≡ 64 ⌝ }
     ensures { λ c. ⌜ Counted (now (rows .entry)) near c ⌝ }
 {
     let mut c = Counts {

@@ -16,7 +16,7 @@ use Rattle.sets.specs.Set.{has, size, IsWith, IsWithout, IsJoin, IsMeet, IsLess
 use Rattle.sets.proofs.TestLaws.{and-r, and-t, and-true, and-turn, or-false, T→true, T→false, T-ext, eqb-same, eqb-turn}
 use Rattle.sets.proofs.MemberLaws.{count-agree, count-narrow, members-count, members-agree, members-narrow}
 use Rattle.clashes.specs.Divisions.{groups}
-use Rattle.clashes.specs.Matrix.{matrix, Sound}
+use Rattle.clashes.specs.Matrix.{matrix, SoundUpTo}
 use Rattle.clashes.proofs.MatrixLaws.{sound-valid}
 use Rattle.graphs.specs.Graph.{Graph, live, vertices, merge, separate, pair, missing, grouping, graph}
 use Rattle.graphs.specs.Good.{Live, Good, Merged, Parted}
@@ -53,6 +53,9 @@ module _ {cap : ℕ} (h : Node) (k : HeldAt cap h) where
   pub live-below : (x : ℕ) → T (has (h .live) x) → x < h .n
   live-below x t = held-live x t .below
 
+  pub live-fits : (x : ℕ) → T (has (h .live) x) → x < cap
+  live-fits x t = omega (arith, live-below x t, k .few)
+
   pub held-beyond : (x : ℕ) → h .n ≤ x → ¬ T (has (h .live) x)
   held-beyond x b t = let c = live-below x t in let z : ⊥ = omega arith in z
 
@@ -74,28 +77,9 @@ module _ {cap : ℕ} (h : Node) (k : HeldAt cap h) where
   pub held-groups : groups 0 (grouping (h .n) (view h)) ≡ size cap (h .live)
   held-groups = grouping-groups (h .n) (view h) (k .good) ∙ sym held-vertices
 
-  -- what the choice of the graph's pair says: the two may be merged or separated, or there is no pair
-  pub choice-pair : (c : Choice) (u v : ℕ) → c ≡ Split u v → choiceOf c ≡ pair (h .n) (view h) → PairAt cap h u v
-  choice-pair c u v s e = record { held = k; chosen = pair-chosen (h .n) (view h) u v (k .good) (sym e ∙ ap choiceOf s) }
-
-  pub choice-none : (c : Choice) → c ≡ Complete → choiceOf c ≡ pair (h .n) (view h) → pair (h .n) (view h) ≡ none
-  choice-none c s e = sym e ∙ ap choiceOf s
-
 -- ---- what falls
 
 module _ {cap : ℕ} (h r : Node) (u v : ℕ) (p : PairAt cap h u v) where
-  pub merged-size : BecomesAt cap h r (merge u v (view h)) → suc (size cap (r .live)) ≡ size cap (h .live)
-  merged-size b =
-      ap suc (held-count r (b .held) ∙ ap₂ (λ (n : ℕ) (g : Graph). count (live n g) (upto n)) (b .same) (b .is))
-      ∙ merged-count (h .n) (view h) (merge u v (view h)) u v (p .held .good) (p .chosen) (merge-is (h .n) (view h) u v (p .held .good) (p .chosen))
-      ∙ sym (held-count h (p .held))
-
-  pub separated-size : BecomesAt cap h r (separate u v (view h)) → size cap (r .live) ≡ size cap (h .live)
-  separated-size b =
-      held-count r (b .held) ∙ ap₂ (λ (n : ℕ) (g : Graph). count (live n g) (upto n)) (b .same) (b .is)
-      ∙ parted-count (h .n) (view h) (separate u v (view h)) u v (p .held .good) (p .chosen) (separate-is (h .n) (view h) u v (p .held .good) (p .chosen))
-      ∙ sym (held-count h (p .held))
-
   pub merged-missing : BecomesAt cap h r (merge u v (view h)) → missing (r .n) (view r) < missing (h .n) (view h)
   merged-missing b =
       subst (λ (m : ℕ). m < missing (h .n) (view h)) (sym (ap₂ (λ (n : ℕ) (g : Graph). missing n g) (b .same) (b .is)))
@@ -108,17 +92,18 @@ module _ {cap : ℕ} (h r : Node) (u v : ℕ) (p : PairAt cap h u v) where
 
 -- ---- the root
 
-module _ (cap : ℕ) (rows : List ℕ) (r : Node) (s : Sound rows) (few : length rows ≤ cap) (e : r .n ≡ length rows) (below : IsBelow (length rows) (r .live))
-    (held : (x : ℕ) → getD (r .rows) x zero ≡ cond (ltb x (length rows)) (getD rows x zero) zero)
+module _ (cap : ℕ) {most : ℕ} (rows : List ℕ) (r : Node) (s : SoundUpTo most rows) (few : length rows ≤ cap) (e : r .n ≡ length rows) (below : IsBelow (length rows) (r .live))
+    (held : (x : ℕ) → x < length rows → getD (r .rows) x zero ≡ getD rows x zero)
     (names : (i : ℕ) → getD (r .names) i zero ≡ cond (ltb i (length rows)) i zero) (rows-long : length (r .rows) ≡ cap) (names-long : length (r .names) ≡ cap) where
   root-adj : (x y : ℕ) → view r .adj x y ≡ graph (length rows) (matrix rows) .adj x y
   root-adj x y =
       ap₂ (λ (a b : Bool). a && (b && has (getD (r .rows) x zero) y)) (below x) (below y)
-      ∙ ap (λ (m : ℕ). ltb x (length rows) && (ltb y (length rows) && has m y)) (held x) ∙ go (ltb x (length rows))
+      ∙ go (ltb x (length rows)) (λ t. ap (λ (m : ℕ). has m y) (held x (ltb→lt x (length rows) t)))
     where
-      go : (b : Bool) → (b && (ltb y (length rows) && has (cond b (getD rows x zero) zero) y)) ≡ (b && (ltb y (length rows) && has (getD rows x zero) y))
-      go true = refl
-      go false = refl
+      go : (b : Bool) → (T b → has (getD (r .rows) x zero) y ≡ has (getD rows x zero) y)
+          → (b && (ltb y (length rows) && has (getD (r .rows) x zero) y)) ≡ (b && (ltb y (length rows) && has (getD rows x zero) y))
+      go true h = ap (λ (t : Bool). true && (ltb y (length rows) && t)) (h tt)
+      go false h = refl
 
   pub root-is : RootAt cap rows r
   root-is = record {
@@ -143,20 +128,6 @@ module _ (cap : ℕ) (rows : List ℕ) (r : Node) (s : Sound rows) (few : length
           T-less b = subst T (sym (lt-ltb x (length rows) b)) tt
 
 -- ---- merging
-
--- one vertex more has u in its row
-pub link-next : (new : List ℕ) (u left w next row : ℕ) → w < length new → T (has left w) → IsWithout left w next → IsWith (getD new w zero) u row
-    → (x y : ℕ) → (has (getD (set new w row) x zero) y || (has next x && eqb u y)) ≡ (has (getD new x zero) y || (has left x && eqb u y))
-link-next new u left w next row b t h i x y = go (ℕ-discrete x w)
-  where
-    at-w : (p q : Bool) → ((p || q) || ((true && not true) && q)) ≡ (p || (true && q))
-    at-w true q = refl
-    at-w false true = refl
-    at-w false false = refl
-
-    go : Dec (x ≡ w) → (has (getD (set new w row) x zero) y || (has next x && eqb u y)) ≡ (has (getD new x zero) y || (has left x && eqb u y))
-    go (yes e) = rw (e, getD-set-same new w row zero b, i y, h w, T→true (has left w) t, eqb-same w) (at-w (has (getD new w zero) y) (eqb u y))
-    go (no q) = rw (getD-set-other new w x row zero q, h x, ne-eqb w x (λ e. q (sym e)), and-true (has left x))
 
 module _ {cap : ℕ} (h r : Node) (u v : ℕ) (p : PairAt cap h u v) where
   lu : has (h .live) u ≡ true

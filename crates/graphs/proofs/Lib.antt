@@ -10,4 +10,3 @@ pub mod HeldLaws
 pub mod LeadLaws
 pub mod PassingLaws
 pub mod ChooseLaws
-pub mod ColourLaws

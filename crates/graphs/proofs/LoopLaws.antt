@@ -65,29 +65,3 @@ fill-next f l i x b e h k = go (ℕ-discrete k i)
     go : Dec (k ≡ i) → getD (set l i x) k zero ≡ cond (ltb k (i + 1)) (f k) zero
     go (yes q) = rw q (getD-set-same l i x zero b ∙ e ∙ sym (ap (λ (t : Bool). cond t (f i) zero) (lt-ltb i (i + 1) (omega arith))))
     go (no q) = getD-set-other l i k x zero q ∙ h k ∙ ap (λ (t : Bool). cond t (f k) zero) (below-same k i q)
-
--- ---- an array that is gone through from 0 on: places below i are done, f is still to come at the others
-
-pub each-next : (f : ℕ → ℕ → ℕ) (l : List ℕ) (i x : ℕ) → i < length l → x ≡ f i (getD l i zero)
-    → (k : ℕ) → cond (ltb k (i + 1)) (getD (set l i x) k zero) (f k (getD (set l i x) k zero)) ≡ cond (ltb k i) (getD l k zero) (f k (getD l k zero))
-each-next f l i x b e k = go (ℕ-discrete k i)
-  where
-    go : Dec (k ≡ i) → cond (ltb k (i + 1)) (getD (set l i x) k zero) (f k (getD (set l i x) k zero)) ≡ cond (ltb k i) (getD l k zero) (f k (getD l k zero))
-    go (yes q) =
-        rw q
-        (ap (λ (t : Bool). cond t (getD (set l i x) i zero) (f i (getD (set l i x) i zero))) (lt-ltb i (i + 1) (omega arith)) ∙ getD-set-same l i x zero b ∙ e
-        ∙ sym (ap (λ (t : Bool). cond t (getD l i zero) (f i (getD l i zero))) (le-ltb i i (omega arith))))
-    go (no q) =
-        ap (λ (t : Bool). cond t (getD (set l i x) k zero) (f k (getD (set l i x) k zero))) (sym (below-same k i q))
-        ∙ ap (λ (m : ℕ). cond (ltb k i) m (f k m)) (getD-set-other l i k x zero q)
-
--- at the end, where f is still to come only at places that the array does not have, and leaves their 0 alone
-pub each-done : (f : ℕ → ℕ → ℕ) (l : List ℕ) (i : ℕ) → length l ≤ i → ((j : ℕ) → f j zero ≡ zero)
-    → (k : ℕ) → cond (ltb k i) (getD l k zero) (f k (getD l k zero)) ≡ getD l k zero
-each-done f l i b z k = go (decLt k i)
-  where
-    go : Dec (k < i) → cond (ltb k i) (getD l k zero) (f k (getD l k zero)) ≡ getD l k zero
-    go (yes c) = ap (λ (t : Bool). cond t (getD l k zero) (f k (getD l k zero))) (lt-ltb k i c)
-    go (no q) =
-        let e : getD l k zero ≡ zero = List·getD-eq-default l zero (omega arith) in
-        ap (λ (t : Bool). cond t (getD l k zero) (f k (getD l k zero))) (le-ltb k i (omega arith)) ∙ ap (f k) e ∙ z k ∙ sym e

@@ -1,13 +1,14 @@
 -- What falls: merging leaves one live vertex fewer, and both merging and separating leave fewer gaps. Assumes nothing.
 use mathlib.Core.Path.{_≡_, sym, ap, _∙_, subst, subst₂}
 use mathlib.Core.Logic.{_≢_}
-use Prim.Native.Nat.{ℕ, suc, _*_, _≤_, _<_}
+use mathlib.Core.Bool.{Bool, true, false}
+use Prim.Native.Nat.{ℕ, zero, suc, _+_, _*_, _≤_, _<_, max, zero-le}
 use native.Mathlib.Omega.{arith}
-use lib.Dec.{T}
+use lib.Dec.{T, ltb, ltb→lt}
 use lib.ListN.{length}
-use Rattle.sets.specs.Lists.{count, upto, cross}
-use Rattle.sets.proofs.TestLaws.{T-ext}
-use Rattle.sets.proofs.ListLaws.{count-lt}
+use Rattle.sets.specs.Lists.{bit, count, table, upto, cross}
+use Rattle.sets.proofs.TestLaws.{and-l, T-ext}
+use Rattle.sets.proofs.ListLaws.{count-append, count-lt}
 use Rattle.sets.proofs.MemberLaws.{count-out, count-agree, members-count}
 use Rattle.graphs.specs.Graph.{Graph, live, vertices, gap, missing}
 use Rattle.graphs.specs.Good.{Live, Good, Chosen, Merged, Parted}
@@ -18,6 +19,27 @@ use Rattle.graphs.proofs.SplitLaws.{merged-live, live-merged, parted-li
 -- at most n * n pairs are missing
 pub missing-le : (n : ℕ) (g : Graph) → missing n g ≤ n * n
 missing-le n g = omega (arith, count-length (gap n g) (cross n n), length-cross n n)
+
+-- nor more than there are pairs of entries, n (n - 1) / 2
+module _ (n : ℕ) (g : Graph) where
+  -- of a row, only the places after x
+  row-gaps : (x m : ℕ) (f : ℕ → ℕ) (i : ℕ) → ((j : ℕ) → f j ≡ i + j) → count (gap n g) (table (λ y. (x, f y)) m) + max (suc x) i ≤ max (suc x) (i + m)
+  row-gaps x zero f i h = omega arith
+  row-gaps x (suc m) f i h =
+      go (gap n g (x, f zero)) (λ t. ltb→lt x (f zero) (and-l (ltb x (f zero)) _ t)) (row-gaps x m (λ j. f (suc j)) (suc i) (λ j. omega (arith, h (suc j))))
+    where
+      go : (b : Bool) → (T b → x < f zero) → count (gap n g) (table (λ y. (x, f (suc y))) m) + max (suc x) (suc i) ≤ max (suc x) (suc i + m)
+          → bit b + count (gap n g) (table (λ y. (x, f (suc y))) m) + max (suc x) i ≤ max (suc x) (i + suc m)
+      go true l r = omega (arith, l tt, h zero)
+      go false l r = omega (arith, r)
+
+  rows-gaps : (k : ℕ) → k ≤ n → 2 * count (gap n g) (cross k n) + k * k + k ≤ 2 * (k * n)
+  rows-gaps zero h = zero-le
+  rows-gaps (suc k) h =
+      omega (arith, rows-gaps k (omega arith), row-gaps k n (λ y. y) 0 (λ j. omega arith), count-append (gap n g) (cross k n) (table (λ y. (k, y)) n))
+
+  pub missing-half : 2 * missing n g + n ≤ n * n
+  missing-half = omega (arith, rows-gaps n (omega arith))
 
 -- a graph in which every gap was one before, and the chosen pair is none, misses fewer
 fewer : (n : ℕ) (g m : Graph) (u v : ℕ) → Chosen n g u v → ((x y : ℕ) → Chosen n m x y → Chosen n g x y) → ¬ Chosen n m u v → missing n m < missing n g

@@ -1,12 +1,12 @@
 -- What the functions of this crate promise of a node, through its view, and what the inner ones promise of its parts.
 --
 --   RootAt cap rows r    : r is the node of the list of these rows; IsRoot: at 64
---   PairAt cap h u v     : u and v may be merged or separated in h; AtPair: at 64
---   BecomesAt cap h r g  : r is a node of as many entries as h, and holds g; Becomes: at 64
+--   PairAt cap h u v     : u and v may be merged or separated in h
+--   BecomesAt cap h r g  : r is a node of as many entries as h, and holds g
 --   Linked rows u s r    : r are as many rows, these, with u in each row of s
 --   Renamed names u v r  : r are as many names, these, with u for v
---   MergedAt cap live rows u v r : of every node with these live vertices and rows, r are the rows once v is merged into u; MergedRows: at 64
---   SeparatedAt cap rows u v r   : of every node with these rows, r are the rows once u and v are adjacent; SeparatedRows: at 64
+--   MergedAt cap live rows u v r : of every node with these live vertices and rows, r are the rows once v is merged into u
+--   SeparatedAt cap rows u v r   : of every node with these rows, r are the rows once u and v are adjacent
 --   sharedAt cap rows near v : how many members of near, below cap, are in the row of v; shared: at 64
 --   lead f u l v         : the pair u, v, where f v is more than what leads so far, else what leads
 --   Mutual rows near apart : of a member of near and one of apart each is in the other's row, or neither
@@ -44,16 +44,10 @@ pub record PairAt (cap : ℕ) (h : Node) (u v : ℕ) : Type 0 where
   pub held : HeldAt cap h
   pub chosen : Chosen (h .n) (view h) u v
 
-abbrev pub AtPair : Node → ℕ → ℕ → Type 0
-AtPair h u v = PairAt 64 h u v
-
 pub record BecomesAt (cap : ℕ) (h r : Node) (g : Graph) : Type 0 where
   pub held : HeldAt cap r
   pub same : r .n ≡ h .n
   pub is : view r ≡ g
-
-abbrev pub Becomes : Node → Node → Graph → Type 0
-Becomes h r g = BecomesAt 64 h r g
 
 pub record Linked (rows : List ℕ) (u s : ℕ) (r : List ℕ) : Type 0 where
   pub long : length r ≡ length rows
@@ -68,16 +62,10 @@ MergedAt cap live rows u v r =
     (m : Node) (left : ℕ) (names : List ℕ) → PairAt cap (holding live rows m) u v → IsWithout live v left → Renamed (m .names) u v names
     → BecomesAt cap (holding live rows m) (node (m .n) left r names) (merge u v (view (holding live rows m)))
 
-abbrev pub MergedRows : ℕ → List ℕ → ℕ → ℕ → List ℕ → Type 0
-MergedRows live rows u v r = MergedAt 64 live rows u v r
-
 abbrev pub SeparatedAt : ℕ → List ℕ → ℕ → ℕ → List ℕ → Type 0
 SeparatedAt cap rows u v r =
     (m : Node) → PairAt cap (holding (m .live) rows m) u v
     → BecomesAt cap (holding (m .live) rows m) (holding (m .live) r m) (separate u v (view (holding (m .live) rows m)))
-
-abbrev pub SeparatedRows : List ℕ → ℕ → ℕ → List ℕ → Type 0
-SeparatedRows rows u v r = SeparatedAt 64 rows u v r
 
 abbrev pub sharedAt : ℕ → List ℕ → ℕ → ℕ → ℕ
 sharedAt cap rows near v = count (λ w. has near w && has (getD rows v zero) w) (upto cap)

@@ -77,6 +77,10 @@ module _ {cap : ℕ} (h : Node) (k : HeldAt cap h) where
       is : everyEdge (has c) ≡ everyEdge (λ x. isIn x (clique n g))
       is = ap everyEdge (fun-ext q)
 
+  -- the same of an H and of a bound that are known to be these
+  pub climb-from : {H : Part} {b : ℕ} (c : ℕ) → IsSetOf (clique n g) c → H ≡ everyEdge (has c) → b ≡ size cap c → Climb H b
+  climb-from {H} {b} c q e f = subst (λ (a : ℕ). Climb H a) (sym f) (subst (λ (K : Part). Climb K (size cap c)) (sym e) (climb-start c q))
+
   pub clique-live : (c : ℕ) → IsSetOf (clique n g) c → Within c (h .live)
   clique-live c q x t = subst T (sym (k .lives x)) (of-live n g x (clique-is n g (k .good) .lives x (in-of x (clique n g) (subst T (q x) t))))
 

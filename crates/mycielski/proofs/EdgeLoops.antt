@@ -126,3 +126,18 @@ laid near u ys s r b j i x y =
 pub tying-end : (cap : ℕ) (near : List ℕ) (u ys s : ℕ) (r : List ℕ) → length near ≡ cap → u < cap → IsJoin (getD near u zero) ys s → Tying cap u ys (set near u s) r 0
     → Ties near u ys r
 tying-end cap near u ys s r l b j i = record { long = i .wide ∙ sym l; is = laid near u ys s r (omega arith) j i }
+
+-- the same where the rows that are written, and the row that is read, are known by equations, as rows of several words are
+pub tying-start-by : {cap u ys : ℕ} {r : List ℕ} (near : List ℕ) (s : ℕ) → length near ≡ cap → r ≡ set near u s → Tying cap u ys r r ys
+tying-start-by {cap} {u} {ys} {r} near s l e = tying-start cap u ys r (subst (λ (k : List ℕ). length k ≡ cap) (sym e) (length-set near u s ∙ l))
+
+pub tying-again-by : {cap u ys : ℕ} {r₀ r r′ : List ℕ} {left v left′ : ℕ} (x s : ℕ) → Tying cap u ys r₀ r left → IsLowest cap left v → x ≡ getD r v zero → IsWith x u s
+    → IsWithout left v left′ → r′ ≡ set r v s → Tying cap u ys r₀ r′ left′
+tying-again-by {cap} {u} {ys} {r₀} {r} {r′} {left} {v} {left′} x s i w a q o e =
+    subst (λ (k : List ℕ). Tying cap u ys r₀ k left′) (sym e) (tying-again u ys r₀ r left v s left′ i w (subst (λ (k : ℕ). IsWith k u s) a q) o)
+
+pub tying-end-by : {cap u ys : ℕ} {r₀ r : List ℕ} {left : ℕ} (near : List ℕ) (x s : ℕ) → length near ≡ cap → u < cap → x ≡ getD near u zero → IsJoin x ys s
+    → Tying cap u ys r₀ r left → r₀ ≡ set near u s → left ≡ 0 → Ties near u ys r
+tying-end-by {cap} {u} {ys} {r₀} {r} {left} near x s l b a j i e z =
+    tying-end cap near u ys s r l b (subst (λ (k : ℕ). IsJoin k ys s) a j)
+    (subst (λ (k : List ℕ). Tying cap u ys k r 0) e (subst (λ (k : ℕ). Tying cap u ys r₀ r k) z i))

@@ -20,7 +20,7 @@ use Rattle.graphs.specs.Graph.{Graph, live}
 use Rattle.graphs.specs.Held.{view, HeldAt}
 use Rattle.graphs.specs.declared.Node.{Node}
 use Rattle.graphs.proofs.PairLaws.{of-ne, ne-of}
-use Rattle.graphs.proofs.HeldLaws.{live-below}
+use Rattle.graphs.proofs.HeldLaws.{live-below, live-fits}
 use Rattle.cliques.specs.Growth.{Within}
 use Rattle.cliques.proofs.WordLaws.{near-row}
 use Rattle.mycielski.specs.Rounds.{Part, everyEdge, ofS, offers, ofW}
@@ -134,7 +134,7 @@ module _ {cap : ℕ} (h : Node) (k : HeldAt cap h) (c : ℕ) (verts : Within c (
   bare x v = has c v && not (has (getD (h .rows) v zero) x)
 
   small : (v : ℕ) → T (has c v) → v < cap
-  small v t = let b = live-below h k v (verts v t) in let z : v < cap = omega (arith, k .few) in z
+  small v t = live-fits h k v (verts v t)
 
   -- of S(v)'s members only v can be lacked
   module _ (v x : ℕ) (cv : T (has c v)) (t : T (ofS n g H v x)) where

@@ -20,8 +20,12 @@ module _ (cap verts : ℕ) (serves : ℕ → ℕ → Bool) where
     pub within : Within left verts
     pub is : (v : ℕ) → T (done verts left v) → (x : ℕ) → has (getD fit v zero) x ≡ serves v x
 
+  -- what stood in the places before does not matter
+  pub fitting-from : (fit : List ℕ) → length fit ≡ cap → Fitting fit verts
+  fitting-from fit l = record { wide = l; within = λ x t. t; is = λ v t. absurd (subst T (done-none verts v) t) }
+
   pub fitting-start : Fitting (replicate cap 0) verts
-  fitting-start = record { wide = length-replicate cap zero; within = λ x t. t; is = λ v t. absurd (subst T (done-none verts v) t) }
+  fitting-start = fitting-from (replicate cap 0) (length-replicate cap zero)
 
   pub fitting-again : (fit : List ℕ) (left v s left′ : ℕ) → Fitting fit left → IsLowest cap left v → ((x : ℕ) → has s x ≡ serves v x) → IsWithout left v left′
       → Fitting (set fit v s) left′
@@ -36,3 +40,8 @@ module _ (cap verts : ℕ) (serves : ℕ → ℕ → Bool) where
 
   pub fitting-end : (fit : List ℕ) → Fitting fit 0 → (v : ℕ) → T (has verts v) → (x : ℕ) → has (getD fit v zero) x ≡ serves v x
   fitting-end fit i v t = i .is v (subst (λ (q : ℕ → Bool). T (q v)) (sym (done-all verts)) t)
+
+  -- the same where the list that is written, and that none is left, are known by equations, as with sets of several words
+  pub fitting-again-by : {fit fit′ : List ℕ} {left v left′ : ℕ} (s : ℕ) → Fitting fit left → IsLowest cap left v → ((x : ℕ) → has s x ≡ serves v x)
+      → IsWithout left v left′ → fit′ ≡ set fit v s → Fitting fit′ left′
+  fitting-again-by {fit} {fit′} {left} {v} {left′} s i w q o e = subst (λ (l : List ℕ). Fitting l left′) (sym e) (fitting-again fit left v s left′ i w q o)

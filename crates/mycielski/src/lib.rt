@@ -48,7 +48,8 @@ pub fn whole(c: u64) -> Sub
 }
 
 // S(v), where `near` has the H-neighbours of v: the live vertices that are adjacent to all of them.
-pub fn serving(live: u64, rows: &[u64; 64], near: u64) -> u64
+pub fn serving(live: u64, rows: &[u64], near: u64) -> u64
+    requires { ⌜ length (now rows) ≡ 64 ⌝ }
     requires { ⌜ Within near live ⌝ }
     ensures { λ r. ⌜ Each live (now (rows .entry)) (λ h. (x : ℕ) → has r x ≡ nearAll (h .n) (view h) (has near) x) ⌝ }
 {
@@ -63,7 +64,8 @@ pub fn serving(live: u64, rows: &[u64; 64], near: u64) -> u64
 }
 
 // The vertices that are adjacent to some member of s; bits of others mean nothing.
-pub fn reached(rows: &[u64; 64], s: u64) -> u64
+pub fn reached(rows: &[u64], s: u64) -> u64
+    requires { ⌜ length (now rows) ≡ 64 ⌝ }
     ensures { λ r. ⌜ ((l : ℕ) → Within s l → Each l (now (rows .entry)) (λ h. (w : ℕ) → (has l w && has r w) ≡ reachable (h .n) (view h) s w)) ⌝ }
 {
     let mut r: u64 = 0;
@@ -94,7 +96,8 @@ pub fn tie(near: &mut [u64; 64], u: usize, ys: u64)
 }
 
 // Which live vertices lack one member of c, and which two.
-pub fn lacking(live: u64, rows: &[u64; 64], c: u64) -> Lack
+pub fn lacking(live: u64, rows: &[u64], c: u64) -> Lack
+    requires { ⌜ length (now rows) ≡ 64 ⌝ }
     ensures { λ r. ⌜ Lacks live (now (rows .entry)) c r ⌝ }
 {
     let mut once: u64 = 0;
@@ -124,7 +127,8 @@ fn outside(live: u64, c: u64, once: u64) -> u64
 }
 
 // W of the first round, where H is c: S(v) has the vertices that lack no member of c, or v alone.
-pub fn first_witnesses(live: u64, rows: &[u64; 64], c: u64) -> u64
+pub fn first_witnesses(live: u64, rows: &[u64], c: u64) -> u64
+    requires { ⌜ length (now rows) ≡ 64 ⌝ }
     requires { ⌜ Within c live ⌝ }
     ensures { λ r. ⌜ Each live (now (rows .entry)) (λ h. (x : ℕ) → has r x ≡ ofW (h .n) (view h) (everyEdge (has c)) x) ⌝ }
 {
@@ -145,7 +149,8 @@ pub fn first_witnesses(live: u64, rows: &[u64; 64], c: u64) -> u64
 }
 
 // W: the live vertices that are adjacent, for each v in H, to some member of S(v).
-pub fn witnesses(live: u64, rows: &[u64; 64], set: u64, near: &[u64; 64]) -> u64
+pub fn witnesses(live: u64, rows: &[u64], set: u64, near: &[u64]) -> u64
+    requires { ⌜ (length (now rows) ≡ 64) × (length (now near) ≡ 64) ⌝ }
     requires { ⌜ Among live (record { set = set; near = now near }) ⌝ }
     ensures { λ r. ⌜ Each live (now (rows .entry)) (λ h. (x : ℕ) → has r x ≡ ofW (h .n) (view h) (partOf (record { set = set; near = now (near .entry) })) x) ⌝ }
 {
@@ -164,7 +169,8 @@ pub fn witnesses(live: u64, rows: &[u64; 64], set: u64, near: &[u64; 64]) -> u64
 }
 
 // S(v) of each v in H.
-pub fn servings(live: u64, rows: &[u64; 64], set: u64, near: &[u64; 64]) -> [u64; 64]
+pub fn servings(live: u64, rows: &[u64], set: u64, near: &[u64]) -> [u64; 64]
+    requires { ⌜ (length (now rows) ≡ 64) × (length (now near) ≡ 64) ⌝ }
     requires { ⌜ Among live (record { set = set; near = now near }) ⌝ }
     ensures { λ r. ⌜ Each live (now (rows .entry)) (λ h. Serves (h .n) (view h) (record { set = set; near = now (near .entry) }) r) ⌝ }
 {
@@ -179,7 +185,8 @@ pub fn servings(live: u64, rows: &[u64; 64], set: u64, near: &[u64; 64]) -> [u64
 }
 
 // The same where H is the set c with every edge, by who lacks one member of c, and who two.
-pub fn first_servings(live: u64, rows: &[u64; 64], c: u64) -> [u64; 64]
+pub fn first_servings(live: u64, rows: &[u64], c: u64) -> [u64; 64]
+    requires { ⌜ length (now rows) ≡ 64 ⌝ }
     requires { ⌜ Within c live ⌝ }
     ensures { λ r. ⌜ Each live (now (rows .entry)) (λ h. ServesAll (h .n) (view h) c r) ⌝ }
 {
@@ -197,7 +204,7 @@ pub fn first_servings(live: u64, rows: &[u64; 64], c: u64) -> [u64; 64]
 
 // H after a round with w of W, where `fit` has S(v): for each v of the old H the lowest member of S(v) that is adjacent to w comes in, tied to w
 // and to v's old H-neighbours.
-pub fn extended(live: u64, rows: &[u64; 64], p: Sub, w: usize, fit: &[u64; 64]) -> Sub
+pub fn extended(live: u64, rows: &[u64], p: Sub, w: usize, fit: &[u64; 64]) -> Sub
     requires { ⌜ Holds live (now rows) ⌝ }
     requires { ⌜ Among live p ⌝ }
     requires { ⌜ w < 64 ⌝ }
@@ -226,7 +233,7 @@ pub fn extended(live: u64, rows: &[u64; 64], p: Sub, w: usize, fit: &[u64; 64]) 
 }
 
 // The bound from the clique c and W of the first round, or a bound on the way to it that is as great as is enough, by rounds on H.
-pub fn climb(live: u64, rows: &[u64; 64], c: u64, ws: u64, enough: usize) -> usize
+pub fn climb(live: u64, rows: &[u64], c: u64, ws: u64, enough: usize) -> usize
     requires { ⌜ Holds live (now rows) ⌝ }
     requires { ⌜ Each live (now rows) (λ h. IsSetOf (clique (h .n) (view h)) c) ⌝ }
     requires { ⌜ Each live (now rows) (λ h. (x : ℕ) → has ws x ≡ ofW (h .n) (view h) (everyEdge (has c)) x) ⌝ }
@@ -257,7 +264,7 @@ pub fn climb(live: u64, rows: &[u64; 64], c: u64, ws: u64, enough: usize) -> usi
 }
 
 // The bound, or a bound on the way to it that is as great as is enough. Where the clique and one round tell, H is not made.
-pub fn bound_among(live: u64, rows: &[u64; 64], enough: usize) -> usize
+pub fn bound_among(live: u64, rows: &[u64], enough: usize) -> usize
     requires { ⌜ Holds live (now rows) ⌝ }
     ensures { λ r. ⌜ Each live (now (rows .entry)) (λ h. Climbs (mycielskian (h .n) (view h)) enough r) ⌝ }
 {

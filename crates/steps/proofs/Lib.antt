@@ -1,5 +1,8 @@
 -- The laws of the walks' turns.
-pub mod Turns
-pub mod Splits
-pub mod Compare
-pub mod Starting
+mod Turns
+mod Splits
+mod Compare
+mod Undoing
+pub mod Copying
+mod Rounds
+mod Starting

@@ -1,28 +1,34 @@
-// The steps of document 01's two walks over the Zykov tree, all on the stack. A merged graph gets rows of its own; a node's own rows become those of the
-// separated graph.
-use bounds::reaches;
+// The steps of document 01's two walks over the Zykov tree, written once for rows of one word and of four. All is lent: the rows and names of a node, in
+// which a merging is done in place and undone; the best division so far; and a trail, on which the pairs that a node has separated stand until its walk
+// goes back.
 use graphs::Choice;
-use graphs::Node;
-use graphs::choose_among;
-use graphs::colours;
-use graphs::merge_rows;
-use graphs::rename;
-use graphs::separate_rows;
-use sets::size;
-use sets::without;
+use seam::choose_among;
+use seam::reaches;
+use undo::Undo;
+use undo::colours;
+use undo::merge;
+use undo::restore;
+use undo::separate;
+use undo::unmerge;
+use wide::Set;
+use wide::below;
+use wide::size;
+use wide::without;
 ghost use mathlib.Core.Path.{_≡_};
-ghost use Prim.Native.Nat.{_≤_, _<_};
-ghost use Rattle.graphs.specs.Held.{view, node};
+ghost use mathlib.Core.List.{_++_};
+ghost use Prim.Native.Nat.{_*_, _≤_, _<_};
+ghost use lib.ListN.{length, drop};
+ghost use Rattle.wide.specs.Words.{num, rowsOf};
+ghost use Rattle.wide.specs.Form.{Form, Fits};
+ghost use Rattle.undo.specs.Forest.{Forest};
+ghost use Rattle.clashes.specs.Divisions.{alone as aloneOf};
 ghost use Rattle.bounds.specs.Names.{mycielskian};
-ghost use Rattle.zykov.specs.Tree.{below};
-ghost use Rattle.zykov.specs.Walk.{become, compare, bounded, plain as plainRule};
-ghost use Rattle.zykov.specs.Budget.{within, onward};
-ghost use Rattle.steps.specs.Going.{Starts, Ready, ReadyAt, Comes, counted as countedOf, stateOf, Found};
+ghost use Rattle.zykov.specs.Walk.{become, compare, bounded, plain};
+ghost use Rattle.steps.specs.Going.{lending, begun, counted as countedOf, Finds, Merging, Unmerging, Parting, Enters, Entered, Splits, Onward, Lends, Lays, Walked};
 
-// A walk on its way: the colours of the best division, its number of groups, the nodes entered, the complete graphs met, and the budget of nodes;
-// out says that it would have had to enter more.
+// A walk on its way: the number of groups of the best division, the nodes entered, the complete graphs met, and the budget of nodes; out says that it
+// would have had to enter more.
 pub struct State {
-    pub best: [u8; 64],
     pub k: usize,
     pub nodes: u64,
     pub leaves: u64,
@@ -30,19 +36,17 @@ pub struct State {
     pub out: bool,
 }
 
-// Every entry alone: no node is entered yet.
-pub fn start(n: usize, budget: u64) -> State
-    requires { ⌜ n ≤ 64 ⌝ }
-    ensures { λ r. ⌜ Starts n budget r ⌝ }
+// A walk's state, and how many pairs it has put on the trail.
+struct Looped {
+    pub state: State,
+    pub more: usize,
+}
+
+// No node is entered yet.
+fn start(n: usize, budget: u64) -> State
+    ensures { λ r. ⌜ r ≡ begun n budget ⌝ }
 {
-    let mut best: [u8; 64] = [0; 64];
-    let mut i = 0;
-    while i < n {
-        best[i] = i as u8;
-        i += 1;
-    }
     State {
-        best: best,
         k: n,
         nodes: 0,
         leaves: 0,
@@ -65,81 +69,145 @@ fn counted(s: State) -> State
 }
 
 // The groups of a complete graph become the best.
-fn improved(n: usize, live: u64, rows: &[u64; 64], names: &[u8; 64], s: State) -> State
-    requires { ⌜ Ready (node n live (now rows) (now names)) s ⌝ }
-    ensures { λ r. ⌜ Found (become n) (node n live (now (rows .entry)) (now (names .entry))) s r ⌝ }
+fn improved(n: usize, live: Set, names: &[u8], best: &mut [u8], s: State) -> State
+    requires { ⌜ Forest (now names) ⌝ }
+    requires { ⌜ (n ≤ length (now names)) × (n ≤ length (now best)) × (n ≤ 256) ⌝ }
+    ensures { λ r. ⌜ Finds become n (num live) (now (names .entry)) (now (best .entry)) s (now (best .exit)) r ⌝ }
 {
-    let held = *rows;
-    let called = *names;
-    let best = colours(Node {
-        n: n,
-        live: live,
-        rows: held,
-        names: called,
-    });
+    colours(n, names, best);
     let mut t = s;
-    t.best = best;
     t.k = size(live);
     t
 }
 
-// The node of these parts is entered. Its rows are its own: they are of no use to the caller after it.
-pub fn enter(n: usize, live: u64, rows: &mut [u64; 64], names: &[u8; 64], s: State) -> State
-    requires { ⌜ Ready (node n live (now rows) (now names)) s ⌝ }
-    ensures { λ r. ⌜ Comes n s r (within (bounded n mycielskian) (s .budget) (below n (view (node n live (now (rows .entry)) (now (names .entry))))) (stateOf n s)) ⌝ }
+// In rows and names v is merged into u; told is what undoes it.
+fn merge_at(words: usize, live: Set, rows: &mut [u64], names: &mut [u8], u: usize, v: usize) -> Undo
+    requires { ⌜ Form words (now rows) ⌝ }
+    requires { ⌜ (length (now names) ≡ 64 * words) × (u < 64 * words) × (v < 64 * words) ⌝ }
+    ensures { λ r. ⌜ Merging words live (now (rows .entry)) (now (names .entry)) u v (now (rows .exit)) (now (names .exit)) r ⌝ }
+{
+    names[v] = u as u8;
+    merge(words, live, rows, u, v)
+}
+
+// Rows and names as they were before that.
+fn unmerge_at(words: usize, rows: &mut [u64], names: &mut [u8], u: usize, v: usize, undo: Undo)
+    requires { ⌜ Form words (now rows) ⌝ }
+    requires { ⌜ (length (now names) ≡ 64 * words) × (u < 64 * words) × (v < 64 * words) ⌝ }
+    requires { ⌜ Fits (64 * words) (num (undo .old)) × Fits (64 * words) (num (undo .near)) ⌝ }
+    ensures { λ r. ⌜ Unmerging words (now (rows .entry)) (now (names .entry)) u v undo (now (rows .exit)) (now (names .exit)) ⌝ }
+{
+    names[v] = v as u8;
+    unmerge(words, rows, u, undo);
+}
+
+// u and v become adjacent, and the pair stands on the trail.
+fn separate_at(words: usize, rows: &mut [u64], trail: &mut [u16], top: usize, u: usize, v: usize)
+    requires { ⌜ Form words (now rows) ⌝ }
+    requires { ⌜ (u < 64 * words) × (v < 64 * words) × (top < length (now trail)) ⌝ }
+    ensures { λ r. ⌜ Parting words (now (rows .entry)) (now (trail .entry)) top u v (now (rows .exit)) (now (trail .exit)) ⌝ }
+{
+    trail[top] = (u * 256 + v) as u16;
+    separate(words, rows, u, v);
+}
+
+// The node of these parts is entered. Rows and names are as they were when it is done, and so is the trail below at.
+fn enter(
+    words: usize,
+    n: usize,
+    live: Set,
+    rows: &mut [u64],
+    names: &mut [u8],
+    best: &mut [u8],
+    trail: &mut [u16],
+    at: usize,
+    s: State,
+) -> State
+    requires { ⌜ Enters words n live (lending (now rows) (now names) (now best) (now trail)) at s ⌝ }
+    ensures { λ r. ⌜ Entered words (bounded n mycielskian) n live (lending (now (rows .entry)) (now (names .entry)) (now (best .entry)) (now (trail .entry))) at s (lending (now (rows .exit)) (now (names .exit)) (now (best .exit)) (now (trail .exit))) r ⌝ }
 {
     let entered = counted(s);
     if entered.out {
         return entered;
     }
-    if reaches(live, rows, entered.k) {
+    if reaches(words, live, rows, entered.k) {
         return entered; // a node that is cut off is counted
     }
-    let c = choose_among(live, rows);
+    let c = choose_among(words, live, rows);
     match c {
-        Choice::Complete => improved(n, live, rows, names, entered),
-        Choice::Split(u, v) => split(n, live, rows, names, u, v, entered),
+        Choice::Complete => improved(n, live, names, best, entered),
+        Choice::Split(u, v) => {
+            let l = split(words, n, live, rows, names, best, trail, at, u, v, entered);
+            restore(words, rows, trail, at, l.more);
+            l.state
+        }
     }
 }
 
 // The node of these parts, entered already, is split at u and v: the merged graph is entered, then the graph with u and v adjacent, which is split in
-// its turn.
+// its turn. Mergings are undone; the separated pairs are on the trail.
 fn split(
+    words: usize,
     n: usize,
-    live: u64,
-    rows: &mut [u64; 64],
-    names: &[u8; 64],
+    live: Set,
+    rows: &mut [u64],
+    names: &mut [u8],
+    best: &mut [u8],
+    trail: &mut [u16],
+    at: usize,
     u: usize,
     v: usize,
     s: State,
-) -> State
-    requires { ⌜ ReadyAt (node n live (now rows) (now names)) u v s ⌝ }
-    ensures { λ r. ⌜ Comes n s r (onward (bounded n mycielskian) (s .budget) n (view (node n live (now (rows .entry)) (now (names .entry)))) u v (stateOf n s)) ⌝ }
+) -> Looped
+    requires { ⌜ Splits words n live (lending (now rows) (now names) (now best) (now trail)) at u v s ⌝ }
+    ensures { λ r. ⌜ Onward words (bounded n mycielskian) n live (lending (now (rows .entry)) (now (names .entry)) (now (best .entry)) (now (trail .entry))) at u v s (lending (now (rows .exit)) (now (names .exit)) (now (best .exit)) (now (trail .exit))) (r .state) (r .more) ⌝ }
 {
     let mut a = u;
     let mut b = v;
     let mut t = s;
+    let mut more: usize = 0;
     loop {
-        let mut fewer = *rows;
-        let mut called = *names;
-        merge_rows(live, &mut fewer, a, b);
-        rename(&mut called, a as u8, b as u8);
-        t = enter(n, without(live, b), &mut fewer, &called, t);
+        let d = merge_at(words, live, rows, names, a, b);
+        t = enter(
+            words,
+            n,
+            without(live, b),
+            rows,
+            names,
+            best,
+            trail,
+            at + more,
+            t,
+        );
+        unmerge_at(words, rows, names, a, b, d);
         if t.out {
-            return t;
+            return Looped {
+                state: t,
+                more: more,
+            };
         }
-        separate_rows(rows, a, b);
+        separate_at(words, rows, trail, at + more, a, b);
+        more += 1;
         t = counted(t);
         if t.out {
-            return t;
+            return Looped {
+                state: t,
+                more: more,
+            };
         }
-        if reaches(live, rows, t.k) {
-            return t;
+        if reaches(words, live, rows, t.k) {
+            return Looped {
+                state: t,
+                more: more,
+            };
         }
-        let c = choose_among(live, rows);
+        let c = choose_among(words, live, rows);
         match c {
             Choice::Complete => {
-                return improved(n, live, rows, names, t);
+                return Looped {
+                    state: improved(n, live, names, best, t),
+                    more: more,
+                };
             }
             Choice::Split(x, y) => {
                 a = x;
@@ -150,45 +218,163 @@ fn split(
 }
 
 // A complete graph is met: it counts, and its groups are kept where they are fewer than the best.
-fn compared(n: usize, live: u64, rows: &[u64; 64], names: &[u8; 64], s: State) -> State
-    requires { ⌜ (Ready (node n live (now rows) (now names)) s) × (s .leaves < s .nodes) ⌝ }
-    ensures { λ r. ⌜ Found (compare n) (node n live (now (rows .entry)) (now (names .entry))) s r ⌝ }
+fn compared(n: usize, live: Set, names: &[u8], best: &mut [u8], s: State) -> State
+    requires { ⌜ Forest (now names) ⌝ }
+    requires { ⌜ (n ≤ length (now names)) × (n ≤ length (now best)) × (n ≤ 256) ⌝ }
+    requires { ⌜ s .leaves < s .nodes ⌝ }
+    ensures { λ r. ⌜ Finds compare n (num live) (now (names .entry)) (now (best .entry)) s (now (best .exit)) r ⌝ }
 {
     let mut t = s;
     t.leaves = t.leaves + 1;
     if size(live) < t.k {
-        return improved(n, live, rows, names, t);
+        return improved(n, live, names, best, t);
     }
     t
 }
 
-// The plain walk below the node of these parts: it goes by itself to the merged graph, which has one vertex fewer, and loops on separations.
-pub fn explore(n: usize, live: u64, rows: &mut [u64; 64], names: &[u8; 64], s: State) -> State
-    requires { ⌜ Ready (node n live (now rows) (now names)) s ⌝ }
-    ensures { λ r. ⌜ Comes n s r (within (plainRule n) (s .budget) (below n (view (node n live (now (rows .entry)) (now (names .entry))))) (stateOf n s)) ⌝ }
+// The plain walk below the node of these parts: it goes by itself to the merged graph, which has one vertex fewer, and loops on separations. Rows and
+// names are as they were when it is done, and so is the trail below at.
+fn explore(
+    words: usize,
+    n: usize,
+    live: Set,
+    rows: &mut [u64],
+    names: &mut [u8],
+    best: &mut [u8],
+    trail: &mut [u16],
+    at: usize,
+    s: State,
+) -> State
+    requires { ⌜ Enters words n live (lending (now rows) (now names) (now best) (now trail)) at s ⌝ }
+    ensures { λ r. ⌜ Entered words (plain n) n live (lending (now (rows .entry)) (now (names .entry)) (now (best .entry)) (now (trail .entry))) at s (lending (now (rows .exit)) (now (names .exit)) (now (best .exit)) (now (trail .exit))) r ⌝ }
 {
     let mut t = s;
+    let mut more: usize = 0;
     loop {
         t = counted(t);
         if t.out {
+            restore(words, rows, trail, at, more);
             return t;
         }
-        let c = choose_among(live, rows);
+        let c = choose_among(words, live, rows);
         match c {
             Choice::Complete => {
-                return compared(n, live, rows, names, t);
+                t = compared(n, live, names, best, t);
+                restore(words, rows, trail, at, more);
+                return t;
             }
             Choice::Split(u, v) => {
-                let mut fewer = *rows;
-                let mut called = *names;
-                merge_rows(live, &mut fewer, u, v);
-                rename(&mut called, u as u8, v as u8);
-                t = explore(n, without(live, v), &mut fewer, &called, t);
+                let d = merge_at(words, live, rows, names, u, v);
+                t = explore(
+                    words,
+                    n,
+                    without(live, v),
+                    rows,
+                    names,
+                    best,
+                    trail,
+                    at + more,
+                    t,
+                );
+                unmerge_at(words, rows, names, u, v, d);
                 if t.out {
+                    restore(words, rows, trail, at, more);
                     return t;
                 }
-                separate_rows(rows, u, v);
+                separate_at(words, rows, trail, at + more, u, v);
+                more += 1;
             }
         }
     }
+}
+
+// The list's rows stand at the front of the lent ones.
+fn copied(rows: &[u64], held: &mut [u64])
+    requires { ⌜ length (now rows) ≤ length (now held) ⌝ }
+    ensures { λ r. ⌜ now (held .exit) ≡ now (rows .entry) ++ drop (length (now (rows .entry))) (now (held .entry)) ⌝ }
+{
+    let mut i: usize = 0;
+    while i < rows.len() {
+        held[i] = rows[i];
+        i += 1;
+    }
+}
+
+// Each of n entries has its own number.
+fn alone(n: usize, out: &mut [u8])
+    requires { ⌜ (n ≤ length (now out)) × (n ≤ 256) ⌝ }
+    ensures { λ r. ⌜ now (out .exit) ≡ aloneOf n ++ drop n (now (out .entry)) ⌝ }
+{
+    let mut i: usize = 0;
+    while i < n {
+        out[i] = i as u8;
+        i += 1;
+    }
+}
+
+// A list's rows are laid in the room that is lent, and every entry stands for itself and is alone.
+fn lay(n: usize, rows: &[u64], held: &mut [u64], names: &mut [u8], best: &mut [u8])
+    requires { ⌜ length (now rows) ≤ length (now held) ⌝ }
+    requires { ⌜ (n ≤ length (now names)) × (n ≤ length (now best)) × (n ≤ 256) ⌝ }
+    ensures { λ r. ⌜ Lays n (now (rows .entry)) (now (held .entry)) (now (names .entry)) (now (best .entry)) (now (held .exit)) (now (names .exit)) (now (best .exit)) ⌝ }
+{
+    copied(rows, held);
+    alone(n, names);
+    alone(n, best);
+}
+
+// The bounded walk over a list of n entries, in the room that is lent.
+pub fn bounded_walk(
+    words: usize,
+    n: usize,
+    rows: &[u64],
+    held: &mut [u64],
+    names: &mut [u8],
+    best: &mut [u8],
+    trail: &mut [u16],
+    budget: u64,
+) -> State
+    requires { ⌜ Lends words n (now rows) (lending (now held) (now names) (now best) (now trail)) ⌝ }
+    ensures { λ r. ⌜ Walked (bounded n mycielskian) n (rowsOf words n (now (rows .entry))) budget (now (best .exit)) r ⌝ }
+{
+    lay(n, rows, held, names, best);
+    enter(
+        words,
+        n,
+        below(n),
+        held,
+        names,
+        best,
+        trail,
+        0,
+        start(n, budget),
+    )
+}
+
+// The plain walk, likewise.
+pub fn plain_walk(
+    words: usize,
+    n: usize,
+    rows: &[u64],
+    held: &mut [u64],
+    names: &mut [u8],
+    best: &mut [u8],
+    trail: &mut [u16],
+    budget: u64,
+) -> State
+    requires { ⌜ Lends words n (now rows) (lending (now held) (now names) (now best) (now trail)) ⌝ }
+    ensures { λ r. ⌜ Walked (plain n) n (rowsOf words n (now (rows .entry))) budget (now (best .exit)) r ⌝ }
+{
+    lay(n, rows, held, names, best);
+    explore(
+        words,
+        n,
+        below(n),
+        held,
+        names,
+        best,
+        trail,
+        0,
+        start(n, budget),
+    )
 }

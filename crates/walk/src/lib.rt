@@ -2,12 +2,11 @@
 use bounds::clique_of;
 use clashes::Verdict;
 use clashes::validity;
-use graphs::root;
 use steps::State;
-use steps::enter;
-use steps::explore;
-use steps::start;
+use steps::bounded_walk;
+use steps::plain_walk;
 ghost use mathlib.Core.Path.{_≡_};
+ghost use Prim.Native.Nat.{_≤_};
 ghost use lib.ListN.{length};
 ghost use Rattle.bounds.specs.Names.{mycielskian};
 ghost use Rattle.zykov.specs.Walk.{boundedWalk, plainWalk};
@@ -60,14 +59,14 @@ fn written(n: usize, s: State) -> usize
     n
 }
 
-// The answer of a walk over these rows that came to s. Where it is accepted the colours are written, and the clique is found.
-fn told(rows: &[u64], s: State, colours: &mut [u8]) -> Answer
+// The answer of a walk over these rows that came to s and to this best. Where it is accepted the colours are written, and the clique is found.
+fn told(rows: &[u64], s: State, best: &[u8], colours: &mut [u8]) -> Answer
     requires { ⌜ Open (now rows) (length (now colours)) ⌝ }
-    ensures { λ r. ⌜ Told (now (rows .entry)) s (now (colours .entry)) r (now (colours .exit)) ⌝ }
+    requires { ⌜ length (now rows) ≤ length (now best) ⌝ }
+    ensures { λ r. ⌜ Told (now (rows .entry)) s (now (best .entry)) (now (colours .entry)) r (now (colours .exit)) ⌝ }
 {
     let n = rows.len();
     let m = written(n, s);
-    let best = s.best;
     let mut i: usize = 0;
     while i < m {
         colours[i] = best[i];
@@ -88,11 +87,21 @@ pub fn fewest(rows: &[u64], colours: &mut [u8], budget: u64) -> Answer
         Gate::Shut(a) => a,
         Gate::Open => {
             let n = rows.len();
-            let h = root(rows);
-            let mut held = h.rows;
-            let names = h.names;
-            let s = enter(n, h.live, &mut held, &names, start(n, budget));
-            told(rows, s, colours)
+            let mut held: [u64; 64] = [0; 64];
+            let mut names: [u8; 64] = [0; 64];
+            let mut best: [u8; 64] = [0; 64];
+            let mut trail: [u16; 2016] = [0; 2016]; // as many pairs as 64 entries have
+            let s = bounded_walk(
+                1,
+                n,
+                rows,
+                &mut held,
+                &mut names,
+                &mut best,
+                &mut trail,
+                budget,
+            );
+            told(rows, s, &best, colours)
         }
     }
 }
@@ -106,11 +115,21 @@ pub fn plain(rows: &[u64], colours: &mut [u8], budget: u64) -> Answer
         Gate::Shut(a) => a,
         Gate::Open => {
             let n = rows.len();
-            let h = root(rows);
-            let mut held = h.rows;
-            let names = h.names;
-            let s = explore(n, h.live, &mut held, &names, start(n, budget));
-            told(rows, s, colours)
+            let mut held: [u64; 64] = [0; 64];
+            let mut names: [u8; 64] = [0; 64];
+            let mut best: [u8; 64] = [0; 64];
+            let mut trail: [u16; 2016] = [0; 2016]; // as many pairs as 64 entries have
+            let s = plain_walk(
+                1,
+                n,
+                rows,
+                &mut held,
+                &mut names,
+                &mut best,
+                &mut trail,
+                budget,
+            );
+            told(rows, s, &best, colours)
         }
     }
 }

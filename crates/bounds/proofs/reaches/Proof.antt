@@ -11,7 +11,7 @@ size-requires c κs = search needs
 
 returns : tie.Need-returns
 returns c =
-    let a = c .before .before .args in
+    let a = c .before .before .before .args in
     λ m held. few-reach (holding (a .live) (a .rows .now) m) held (a .best) (omega (arith, c .if1 .taken, c .before .size .ensures))
 
 bound-among-requires : tie.Need-bound-among-requires
@@ -19,7 +19,7 @@ bound-among-requires c κs = search needs
 
 returns-2 : tie.Need-returns-2
 returns-2 c =
-    let a = c .before .before .before .args in
+    let a = c .before .before .before .before .args in
     λ m held. climbs-reach (holding (a .live) (a .rows .now) m) held (a .best) (c .bound-among .result) (c .bound-among .ensures m held)
 
 pub reaches-spec : {M : Type 1} → statement M

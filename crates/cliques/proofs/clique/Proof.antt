@@ -6,11 +6,11 @@ use Rattle.cliques.proofs.clique.Statement.{statement}
 use Rattle.cliques.proofs.clique.Tie as tie
 
 clique-among-requires : tie.Need-clique-among-requires
-clique-among-requires c κs = (c .before .before .args .t1, c .before .before .pre)
+clique-among-requires c κs = (c .before .before .before .args .t1, c .before .before .before .pre)
 
 returns : tie.Need-returns
 returns c =
-    elim (c .clique-among .ensures (c .before .before .before .args .t1) (c .before .before .before .pre)) [
+    elim (c .clique-among .ensures (c .before .before .before .before .args .t1) (c .before .before .before .before .pre)) [
       | inl e ↦ e
       | inr e ↦ absurd (let z : ⊥ = omega (arith, size-le 64 (c .clique-among .result)) in z)
     ]

@@ -22,14 +22,14 @@ abbrev μ-loop : tie.MeasureT-loop
 μ-loop live rows enough free₀ best₀ most₀ free best most = size 64 free
 
 loop-holds : tie.Need-loop-holds Inv-loop μ-loop
-loop-holds c = (sym (size-none 64), λ m k. hunt-start (holding (c .args .live) (c .args .rows .now) m) k)
+loop-holds c = (sym (size-none 64), λ m k. hunt-start (holding (c .before .args .live) (c .before .args .rows .now) m) k)
 
 lowest-requires : tie.Need-lowest-requires Inv-loop μ-loop
 lowest-requires c κs = search needs
 
 opened-requires : tie.Need-opened-requires Inv-loop μ-loop
 opened-requires c κs =
-    let a = c .before .before .before in
+    let a = c .before .before .before .before in
     (a .pre, (c .lowest .ensures .below, c .before .before .loop .inv .1 (a .pre .0) (a .pre .1) .free-live (c .lowest .result) (c .lowest .ensures .member)))
 
 less-requires : tie.Need-less-requires Inv-loop μ-loop
@@ -43,7 +43,7 @@ size-requires c κs = search needs
 
 grow-requires : tie.Need-grow-requires Inv-loop μ-loop
 grow-requires c κs =
-    let a = c .before .before .before .before .before .before .before .before in
+    let a = c .before .before .before .before .before .before .before .before .before in
     let low = c .before .before .before .before .before .lowest in
     let opened = c .before .before .before .before .opened in
     let h = holding (a .args .live) (a .args .rows .now) (a .pre .0) in (
@@ -61,7 +61,7 @@ returns c =
     let grown = c .before .before .before .grow in
     let sized2 = c .before .before .size2 in
     λ m k.
-    let a = c .before .before .before .before .before .before .before .before .before .before .before .before in
+    let a = c .before .before .before .before .before .before .before .before .before .before .before .before .before in
     let b = c .before .before .before .before .before .before .before .before .before .before .before .loop in
     let h = holding (a .args .live) (a .args .rows .now) m in
     let o = c .before .before .before .before .before .before .before .before .opened in
@@ -72,7 +72,7 @@ returns c =
 
 loop-less : tie.Need-loop-less Inv-loop μ-loop
 loop-less c =
-    let a = c .before .before .before .before .before .before .before .before .before .before .before .before in
+    let a = c .before .before .before .before .before .before .before .before .before .before .before .before .before in
     let b = c .before .before .before .before .before .before .before .before .before .before .before .loop in
     let low = c .before .before .before .before .before .before .before .before .before .lowest in
     let opened = c .before .before .before .before .before .before .before .before .opened in
@@ -83,7 +83,7 @@ loop-less c =
 
 loop-again : tie.Need-loop-again Inv-loop μ-loop
 loop-again c =
-    let a = c .before .before .before .before .before .before .before .before .before .before .before .before in
+    let a = c .before .before .before .before .before .before .before .before .before .before .before .before .before in
     let b = c .before .before .before .before .before .before .before .before .before .before .before .loop in
     let low = c .before .before .before .before .before .before .before .before .before .lowest in
     let o = c .before .before .before .before .before .before .before .before .opened in
@@ -100,7 +100,7 @@ loop-again c =
 
 loop-less-2 : tie.Need-loop-less-2 Inv-loop μ-loop
 loop-less-2 c =
-    let a = c .before .before .before .before .before .before .before .before .before .before .before in
+    let a = c .before .before .before .before .before .before .before .before .before .before .before .before in
     let b = c .before .before .before .before .before .before .before .before .before .before .loop in
     let low = c .before .before .before .before .before .before .before .before .lowest in
     let opened = c .before .before .before .before .before .before .before .opened in
@@ -111,7 +111,7 @@ loop-less-2 c =
 
 loop-again-2 : tie.Need-loop-again-2 Inv-loop μ-loop
 loop-again-2 c =
-    let a = c .before .before .before .before .before .before .before .before .before .before .before in
+    let a = c .before .before .before .before .before .before .before .before .before .before .before .before in
     let b = c .before .before .before .before .before .before .before .before .before .before .loop in
     let low = c .before .before .before .before .before .before .before .before .lowest in
     let o = c .before .before .before .before .before .before .before .opened in
@@ -127,7 +127,7 @@ loop-again-2 c =
 
 loop-less-3 : tie.Need-loop-less-3 Inv-loop μ-loop
 loop-less-3 c =
-    let a = c .before .before .before .before .before .before .before .before in
+    let a = c .before .before .before .before .before .before .before .before .before in
     let b = c .before .before .before .before .before .before .before .loop in
     let low = c .before .before .before .before .before .lowest in
     let opened = c .before .before .before .before .opened in
@@ -138,7 +138,7 @@ loop-less-3 c =
 
 loop-again-3 : tie.Need-loop-again-3 Inv-loop μ-loop
 loop-again-3 c =
-    let a = c .before .before .before .before .before .before .before .before in
+    let a = c .before .before .before .before .before .before .before .before .before in
     let b = c .before .before .before .before .before .before .before .loop in
     let low = c .before .before .before .before .before .lowest in
     let o = c .before .before .before .before .opened in
@@ -154,7 +154,7 @@ loop-again-3 c =
 returns-2 : tie.Need-returns-2 Inv-loop μ-loop
 returns-2 c =
     λ m k.
-    let a = c .before .before in
+    let a = c .before .before .before in
     let h = holding (a .args .live) (a .args .rows .now) m in
     inl (hunt-end h k (c .before .loop .best) (subst (λ f. Hunt h k f (c .before .loop .best)) (c .loop-test .left) (c .before .loop .inv .1 m k)))
 

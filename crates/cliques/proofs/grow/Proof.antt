@@ -20,7 +20,7 @@ abbrev μ-loop : tie.MeasureT-loop
 μ-loop rows left set₀ near₀ rest₀ set near rest = size 64 rest
 
 loop-holds : tie.Need-loop-holds Inv-loop μ-loop
-loop-holds c = λ l m k a b. turn-start (holding l (c .args .rows .now) m) k (c .args .c) (c .args .left) a b
+loop-holds c = λ l m k a b. turn-start (holding l (c .before .args .rows .now) m) k (c .before .args .c) (c .before .args .left) a b
 
 lowest-requires : tie.Need-lowest-requires Inv-loop μ-loop
 lowest-requires c κs = search needs
@@ -28,8 +28,8 @@ lowest-requires c κs = search needs
 mul-row : tie.Need-mul-row Inv-loop μ-loop
 mul-row c = search needs
 
-element-copy-out-row : tie.Need-element-copy-out-row Inv-loop μ-loop
-element-copy-out-row c = search needs
+shared-slice-read-row : tie.Need-shared-slice-read-row Inv-loop μ-loop
+shared-slice-read-row c = search needs
 
 with-requires : tie.Need-with-requires Inv-loop μ-loop
 with-requires c κs = search needs
@@ -42,7 +42,7 @@ meet-requires-2 c κs = search needs
 
 loop-less : tie.Need-loop-less Inv-loop μ-loop
 loop-less c =
-    let a = c .before .before .before .before .before .before .before in
+    let a = c .before .before .before .before .before .before .before .before in
     let b = c .before .before .before .before .before .before .loop in
     let low = c .before .before .before .before .lowest in
     let put = c .before .before .with in
@@ -54,7 +54,7 @@ loop-less c =
 
 loop-again : tie.Need-loop-again Inv-loop μ-loop
 loop-again c =
-    let a = c .before .before .before .before .before .before .before in
+    let a = c .before .before .before .before .before .before .before .before in
     let b = c .before .before .before .before .before .before .loop in
     λ l m k p q.
     turn-again (holding l (a .args .rows .now) m) k (a .args .c) (a .args .left) (record { set = b .set; near = b .near }) (b .rest)
@@ -63,7 +63,7 @@ loop-again c =
 
 returns : tie.Need-returns Inv-loop μ-loop
 returns c =
-    let a = c .before .before in
+    let a = c .before .before .before in
     let b = c .before .loop in
     λ l w m k.
     turn-end (holding l (a .args .rows .now) m) k (a .args .c) (a .args .left) (record { set = b .set; near = b .near })
@@ -79,7 +79,7 @@ grow-spec =
     loop-holds
     lowest-requires
     mul-row
-    element-copy-out-row
+    shared-slice-read-row
     with-requires
     meet-requires
     meet-requires-2

@@ -12,8 +12,8 @@ use Rattle.cliques.proofs.opened.Tie as tie
 mul-meet : tie.Need-mul-meet
 mul-meet c = search needs
 
-element-copy-out-meet : tie.Need-element-copy-out-meet
-element-copy-out-meet c = search needs
+shared-slice-read-meet : tie.Need-shared-slice-read-meet
+shared-slice-read-meet c = search needs
 
 meet-requires : tie.Need-meet-requires
 meet-requires c κs = search needs
@@ -29,7 +29,7 @@ less-requires c κs = search needs
 
 grow-requires : tie.Need-grow-requires
 grow-requires c κs =
-    let a = c .before .before .before .before .before in
+    let a = c .before .before .before .before .before .before in
     let below = c .before .below in
     let h = holding (a .args .live) (a .args .rows .now) (a .pre .0 .0) in
     let k = a .pre .0 .1 in
@@ -44,7 +44,7 @@ returns c =
     let below = c .before .before .below in
     let cut = c .before .less in
     λ n k.
-    let a = c .before .before .before .before .before .before in
+    let a = c .before .before .before .before .before .before .before in
     let h = holding (a .args .live) (a .args .rows .now) n in
     let m = c .before .before .before .before .meet in
     let lives = near-lives h k (a .args .s) (m .result) (below .result) (cut .result) (a .pre .1 .1) (m .ensures) (below .ensures) (cut .ensures) in
@@ -57,7 +57,7 @@ opened-spec =
     tie.close
     (tie.spec
     mul-meet
-    element-copy-out-meet
+    shared-slice-read-meet
     meet-requires
     with-requires
     below-requires

@@ -34,7 +34,7 @@ pull-requires-4 c κs = search needs
 
 absorb-requires : tie.Need-absorb-requires Inv-loop μ-loop
 absorb-requires c κs v =
-    let a = c .before .before .before .before .before .before .args in
+    let a = c .before .before .before .before .before .before .before .args in
     omega (
       arith,
       c .before .before .before .before .before .loop .inv v,
@@ -69,7 +69,7 @@ loop-again c v =
 
 returns : tie.Need-returns Inv-loop μ-loop
 returns c v =
-    let rows = c .before .before .args .rows .now in
+    let rows = c .before .before .before .args .rows .now in
     omega (arith, c .before .loop .inv v, held-none rows v, ap (λ (s : ℕ). held rows s v) (c .loop-test .left))
 
 pub counted-spec : {M : Type 1} → statement M

@@ -28,8 +28,8 @@ rest-requires c κs = search needs
 mul-meet : tie.Need-mul-meet Inv-loop μ-loop
 mul-meet c = search needs
 
-element-copy-out-meet : tie.Need-element-copy-out-meet Inv-loop μ-loop
-element-copy-out-meet c = search needs
+shared-slice-read-meet : tie.Need-shared-slice-read-meet Inv-loop μ-loop
+shared-slice-read-meet c = search needs
 
 meet-requires : tie.Need-meet-requires Inv-loop μ-loop
 meet-requires c κs = search needs
@@ -48,7 +48,7 @@ loop-less c =
 
 loop-again : tie.Need-loop-again Inv-loop μ-loop
 loop-again c =
-    let a = c .before .before .before .before .before .before .before .before .before .args in
+    let a = c .before .before .before .before .before .before .before .before .before .before .args in
     let l = c .before .before .before .before .before .before .before .before .loop in
     let v = c .before .before .before .before .before .before .lowest in
     let r = c .before .before .before .before .before .rest in
@@ -66,7 +66,7 @@ loop-less-2 c =
 
 loop-again-2 : tie.Need-loop-again-2 Inv-loop μ-loop
 loop-again-2 c =
-    let a = c .before .before .before .before .before .before .before .before .before .args in
+    let a = c .before .before .before .before .before .before .before .before .before .before .args in
     let l = c .before .before .before .before .before .before .before .before .loop in
     let v = c .before .before .before .before .before .before .lowest in
     let r = c .before .before .before .before .before .rest in
@@ -78,7 +78,7 @@ loop-again-2 c =
 
 returns : tie.Need-returns Inv-loop μ-loop
 returns c =
-    let a = c .before .before .args in
+    let a = c .before .before .before .args in
     sym (over-none 64 (lead (shared (a .rows .now) (a .near)) (a .u)) (c .before .loop .best) (c .before .loop .left) (c .loop-test .left)) ∙ c .before .loop .inv
 
 pub by-pairs-spec : {M : Type 1} → statement M
@@ -91,7 +91,7 @@ by-pairs-spec =
     lowest-requires
     rest-requires
     mul-meet
-    element-copy-out-meet
+    shared-slice-read-meet
     meet-requires
     size-requires
     add-common

@@ -20,7 +20,7 @@ counted-requires : tie.Need-counted-requires Inv-loop μ-loop
 counted-requires c κs = search needs
 
 loop-holds : tie.Need-loop-holds Inv-loop μ-loop
-loop-holds c = scanned-none 64 (c .before .args .rows .now) (c .before .args .live)
+loop-holds c = scanned-none 64 (c .before .before .args .rows .now) (c .before .before .args .live)
 
 lowest-requires : tie.Need-lowest-requires Inv-loop μ-loop
 lowest-requires c κs = search needs
@@ -31,8 +31,8 @@ rest-requires c κs = search needs
 mul-meet : tie.Need-mul-meet Inv-loop μ-loop
 mul-meet c = search needs
 
-element-copy-out-meet : tie.Need-element-copy-out-meet Inv-loop μ-loop
-element-copy-out-meet c = search needs
+shared-slice-read-meet : tie.Need-shared-slice-read-meet Inv-loop μ-loop
+shared-slice-read-meet c = search needs
 
 meet-requires : tie.Need-meet-requires Inv-loop μ-loop
 meet-requires c κs = search needs
@@ -42,13 +42,15 @@ less-requires c κs = search needs
 
 led-requires : tie.Need-led-requires Inv-loop μ-loop
 led-requires c κs =
-    let a = c .before .before .before .before .before .before .before .before in
+    let a = c .before .before .before .before .before .before .before .before .before in
     let l = c .before .before .before .before .before .before .loop in
     let low = c .before .before .before .before .lowest in
     let w = c .before .before .before .rest in
-    let met = c .before .meet in
-    row-mutual (holding (a .args .live) (a .args .rows .now) (a .pre .0)) (a .pre .1) (low .result) (w .result) (met .result) (c .less .result)
-    (λ x t. l .inv .rest .within x (without-kept (l .left) (low .result) (w .result) x (w .ensures (low .result) (low .ensures)) t .0)) (met .ensures) (c .less .ensures)
+    let met = c .before .meet in (
+      a .pre .1 .rows-long,
+      row-mutual (holding (a .args .live) (a .args .rows .now) (a .pre .0)) (a .pre .1) (low .result) (w .result) (met .result) (c .less .result)
+          (λ x t. l .inv .rest .within x (without-kept (l .left) (low .result) (w .result) x (w .ensures (low .result) (low .ensures)) t .0)) (met .ensures) (c .less .ensures),
+    )
 
 hopeful-requires : tie.Need-hopeful-requires Inv-loop μ-loop
 hopeful-requires c κs = search needs
@@ -66,7 +68,7 @@ loop-less c =
 
 loop-again : tie.Need-loop-again Inv-loop μ-loop
 loop-again c =
-    let a = c .before .before .before .before .before .before .before .before .before .before in
+    let a = c .before .before .before .before .before .before .before .before .before .before .before in
     let counted = c .before .before .before .before .before .before .before .before .before .counted in
     let l = c .before .before .before .before .before .before .before .before .loop in
     let u = c .before .before .before .before .before .before .lowest in
@@ -83,7 +85,7 @@ loop-again c =
 
 returns : tie.Need-returns Inv-loop μ-loop
 returns c =
-    let a = c .before .before .before .before .before .args in
+    let a = c .before .before .before .before .before .before .args in
     let l = c .before .before .before .loop in
     λ m k.
     leads-none (sharing 64 (a .rows .now) (a .live)) (l .best) _
@@ -91,7 +93,7 @@ returns c =
 
 returns-2 : tie.Need-returns-2 Inv-loop μ-loop
 returns-2 c =
-    let a = c .before .before .before .before .before .args in
+    let a = c .before .before .before .before .before .before .args in
     let l = c .before .before .before .loop in
     λ m k.
     leads-some (sharing 64 (a .rows .now) (a .live)) (l .best) _
@@ -108,7 +110,7 @@ choose-among-spec =
     lowest-requires
     rest-requires
     mul-meet
-    element-copy-out-meet
+    shared-slice-read-meet
     meet-requires
     less-requires
     led-requires

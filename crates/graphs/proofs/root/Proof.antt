@@ -1,6 +1,6 @@
 -- `graphs::root` meets its contract: rows and names below i are the list's, the others 0. Assumes nothing.
 use mathlib.Core.Path.{_≡_, refl, ap, _∙_}
-use mathlib.Core.Bool.{cond}
+use mathlib.Core.Bool.{Bool, cond}
 use Prim.Native.Nat.{ℕ, _≤_, _-_}
 use native.Mathlib.Omega.{arith}
 use lib.Dec.{ltb}
@@ -8,6 +8,7 @@ use lib.ListN.{length, getD}
 use Rattle.graphs.proofs.HeldLaws.{root-is}
 use Rattle.graphs.proofs.LoopLaws.{fill-none, fill-next}
 use borrow.Author.Needs.{needs}
+use borrow.Author.Tests.{lt-ltb}
 use Rattle.graphs.proofs.root.Statement.{statement}
 use Rattle.graphs.proofs.root.Tie as tie
 
@@ -67,7 +68,8 @@ returns c =
     let rows = c .before .before .before .before .args .rows .now in
     let e : l .i ≡ length rows = omega (arith, l .inv .0, c .before .loop-test .left) in
     let s = c .before .before .before .before .pre in
-    root-is 64 rows _ s (s .apart .inside .few) refl (c .below .ensures) (λ k. l .inv .3 k ∙ ap (λ (m : ℕ). cond (ltb k m) (getD rows k 0) 0) e)
+    root-is 64 rows _ s (s .apart .inside .few) refl (c .below .ensures)
+    (λ k b. l .inv .3 k ∙ ap (λ (t : Bool). cond t (getD rows k 0) 0) (lt-ltb k (l .i) (omega arith)))
     (λ k. l .inv .4 k ∙ ap (λ (m : ℕ). cond (ltb k m) k 0) e) (l .inv .1) (l .inv .2)
 
 pub root-spec : {M : Type 1} → statement M

@@ -18,7 +18,7 @@ size-requires c κs = search needs
 returns : tie.Need-returns
 returns c =
     λ m k.
-    let a = c .before .before .before in
+    let a = c .before .before .before .before in
     let r = c .before .before .clique-among in
     record {
       most = omega (arith, c .before .size .ensures, reaches-most (holding (a .args .live) (a .args .rows .now) m) k (a .args .enough) (r .result) (r .ensures m k));
@@ -31,7 +31,7 @@ size-requires-2 c κs = search needs
 returns-2 : tie.Need-returns-2
 returns-2 c =
     λ m k.
-    let a = c .before .before .before .before .before in
+    let a = c .before .before .before .before .before .before in
     let h = holding (a .args .live) (a .args .rows .now) m in
     let r = c .before .before .before .before .clique-among in
     let is = reaches-short h k (a .args .enough) (r .result) (r .ensures m k) (omega (arith, c .before .before .if1 .left, c .before .before .before .size .ensures)) in
@@ -41,12 +41,14 @@ returns-2 c =
 
 first-witnesses-requires : tie.Need-first-witnesses-requires
 first-witnesses-requires c κs =
-    let a = c .before .before .before .before .before in
+    let a = c .before .before .before .before .before .before in
     let r = c .before .before .before .before .clique-among in
-    let h = holding (a .args .live) (a .args .rows .now) (a .pre .0) in
-    clique-live h (a .pre .1) (r .result)
-    (reaches-short h (a .pre .1) (a .args .enough) (r .result) (r .ensures (a .pre .0) (a .pre .1))
-    (omega (arith, c .before .before .if1 .left, c .before .before .before .size .ensures)))
+    let h = holding (a .args .live) (a .args .rows .now) (a .pre .0) in (
+      a .pre .1 .rows-long,
+      clique-live h (a .pre .1) (r .result)
+          (reaches-short h (a .pre .1) (a .args .enough) (r .result) (r .ensures (a .pre .0) (a .pre .1))
+          (omega (arith, c .before .before .if1 .left, c .before .before .before .size .ensures))),
+    )
 
 returns-3 : tie.Need-returns-3
 returns-3 c =
@@ -54,7 +56,7 @@ returns-3 c =
     let test = c .before .before .before .before .if1 in
     let firstwitnesses = c .before .first-witnesses in
     λ m k.
-    let a = c .before .before .before .before .before .before .before in
+    let a = c .before .before .before .before .before .before .before .before in
     let h = holding (a .args .live) (a .args .rows .now) m in
     let r = c .before .before .before .before .before .before .clique-among in
     let is = reaches-short h k (a .args .enough) (r .result) (r .ensures m k) (omega (arith, test .left, sized .ensures)) in
@@ -76,7 +78,7 @@ returns-4 c =
     let sized2 = c .before .before .before .before .size2 in
     let firstwitnesses = c .before .before .first-witnesses in
     λ m k.
-    let a = c .before .before .before .before .before .before .before .before in
+    let a = c .before .before .before .before .before .before .before .before .before in
     let h = holding (a .args .live) (a .args .rows .now) m in
     let r = c .before .before .before .before .before .before .before .clique-among in
     let is = reaches-short h k (a .args .enough) (r .result) (r .ensures m k) (omega (arith, test .left, sized .ensures)) in
@@ -86,7 +88,7 @@ returns-4 c =
 
 climb-requires : tie.Need-climb-requires
 climb-requires c κs =
-    let a = c .before .before .before .before .before .before .before .before in
+    let a = c .before .before .before .before .before .before .before .before .before in
     let r = c .before .before .before .before .before .before .before .clique-among in
     let sized = c .before .before .before .before .before .before .size in
     let test = c .before .before .before .before .before .if1 in

@@ -31,19 +31,19 @@ add-b c = search needs
 
 first-servings-requires : tie.Need-first-servings-requires Inv-loop μ-loop
 first-servings-requires c κs =
-    let a = c .before .before in
+    let a = c .before .before .before in
     let q = a .pre .0 in
-    clique-live (holding (a .args .live) (a .args .rows .now) (q .0)) (q .1) (a .args .c) (a .pre .1 .0 (q .0) (q .1))
+    (q .1 .rows-long, clique-live (holding (a .args .live) (a .args .rows .now) (q .0)) (q .1) (a .args .c) (a .pre .1 .0 (q .0) (q .1)))
 
 whole-requires : tie.Need-whole-requires Inv-loop μ-loop
 whole-requires c κs = search needs
 
 lowest-requires : tie.Need-lowest-requires Inv-loop μ-loop
-lowest-requires c κs = c .before .before .before .before .pre .1 .1 .1 .0
+lowest-requires c κs = c .before .before .before .before .before .pre .1 .1 .1 .0
 
 extended-requires : tie.Need-extended-requires Inv-loop μ-loop
 extended-requires c κs =
-    let a = c .before .before .before .before .before .before in
+    let a = c .before .before .before .before .before .before .before in
     let p = c .before .before .whole in
     let q = a .pre .0 in (
       q,
@@ -65,7 +65,7 @@ extended-requires c κs =
 
 loop-holds : tie.Need-loop-holds Inv-loop μ-loop
 loop-holds c =
-    let a = c .before .before .before .before .before .before .before in
+    let a = c .before .before .before .before .before .before .before .before in
     let p = c .before .before .before .whole in
     let b = c .before .before .before .before .before .size2 in
     let w = c .before .before .lowest in
@@ -80,7 +80,7 @@ size-requires-3 c κs = search needs
 
 returns : tie.Need-returns Inv-loop μ-loop
 returns c =
-    let a = c .before .before .before .before .before .before .before .before .before .before .before in
+    let a = c .before .before .before .before .before .before .before .before .before .before .before .before in
     let sized = c .before .before .before .before .before .before .before .before .before .before .size in
     let l = c .before .before .before .loop in
     λ m k.
@@ -90,17 +90,18 @@ returns c =
 
 witnesses-requires : tie.Need-witnesses-requires Inv-loop μ-loop
 witnesses-requires c κs =
-    let a = c .before .before .before .before .before .before .before .before .before .before .before .before .before in
-    let l = c .before .before .before .before .before .loop in
-    climb-among (holding (a .args .live) (a .args .rows .now) (a .pre .0 .0)) (a .pre .0 .1) (l .p) (l .b) (l .inv (a .pre .0 .0) (a .pre .0 .1))
+    let a = c .before .before .before .before .before .before .before .before .before .before .before .before .before .before .before in
+    let l = c .before .before .before .before .before .before .loop in
+    let q = a .pre .0 in
+    ((q .1 .rows-long, search needs), climb-among (holding (a .args .live) (a .args .rows .now) (q .0)) (q .1) (l .p) (l .b) (l .inv (q .0) (q .1)))
 
 returns-2 : tie.Need-returns-2 Inv-loop μ-loop
 returns-2 c =
-    let a = c .before .before .before .before .before .before .before .before .before .before .before .before .before .before .before in
-    let sized = c .before .before .before .before .before .before .before .before .before .before .before .before .before .before .size in
-    let l = c .before .before .before .before .before .before .before .loop in
-    let sized3 = c .before .before .before .before .before .size3 in
-    let test = c .before .before .before .before .if1 in
+    let a = c .before .before .before .before .before .before .before .before .before .before .before .before .before .before .before .before .before in
+    let sized = c .before .before .before .before .before .before .before .before .before .before .before .before .before .before .before .size in
+    let l = c .before .before .before .before .before .before .before .before .loop in
+    let sized3 = c .before .before .before .before .before .before .size3 in
+    let test = c .before .before .before .before .before .if1 in
     let witnesses = c .before .witnesses in
     λ m k.
     let h = holding (a .args .live) (a .args .rows .now) m in
@@ -116,11 +117,11 @@ add-result c = search needs
 
 returns-3 : tie.Need-returns-3 Inv-loop μ-loop
 returns-3 c =
-    let a = c .before .before .before .before .before .before .before .before .before .before .before .before .before .before .before .before in
-    let sized = c .before .before .before .before .before .before .before .before .before .before .before .before .before .before .before .size in
-    let l = c .before .before .before .before .before .before .before .before .loop in
-    let sized3 = c .before .before .before .before .before .before .size3 in
-    let test = c .before .before .before .before .before .if1 in
+    let a = c .before .before .before .before .before .before .before .before .before .before .before .before .before .before .before .before .before .before in
+    let sized = c .before .before .before .before .before .before .before .before .before .before .before .before .before .before .before .before .size in
+    let l = c .before .before .before .before .before .before .before .before .before .loop in
+    let sized3 = c .before .before .before .before .before .before .before .size3 in
+    let test = c .before .before .before .before .before .before .if1 in
     let witnesses = c .before .before .witnesses in
     λ m k.
     let h = holding (a .args .live) (a .args .rows .now) m in
@@ -130,21 +131,22 @@ returns-3 c =
 
 servings-requires : tie.Need-servings-requires Inv-loop μ-loop
 servings-requires c κs =
-    let a = c .before .before .before .before .before .before .before .before .before .before .before .before .before .before .before .before .before .before in
-    let l = c .before .before .before .before .before .before .before .before .before .before .loop in
-    climb-among (holding (a .args .live) (a .args .rows .now) (a .pre .0 .0)) (a .pre .0 .1) (l .p) (l .b) (l .inv (a .pre .0 .0) (a .pre .0 .1))
+    let a = c .before .before .before .before .before .before .before .before .before .before .before .before .before .before .before .before .before .before .before .before .before in
+    let l = c .before .before .before .before .before .before .before .before .before .before .before .before .loop in
+    let q = a .pre .0 in
+    ((q .1 .rows-long, search needs), climb-among (holding (a .args .live) (a .args .rows .now) (q .0)) (q .1) (l .p) (l .b) (l .inv (q .0) (q .1)))
 
 lowest-requires-2 : tie.Need-lowest-requires-2 Inv-loop μ-loop
-lowest-requires-2 c κs = c .before .before .before .before .if2 .left
+lowest-requires-2 c κs = c .before .before .before .before .before .if2 .left
 
 extended-requires-2 : tie.Need-extended-requires-2 Inv-loop μ-loop
 extended-requires-2 c κs =
-    let a = c .before .before .before .before .before .before .before .before .before .before .before .before .before .before .before .before .before .before .before .before .before in
-    let sized = c .before .before .before .before .before .before .before .before .before .before .before .before .before .before .before .before .before .before .before .before .size in
-    let l = c .before .before .before .before .before .before .before .before .before .before .before .before .before .loop in
-    let sized3 = c .before .before .before .before .before .before .before .before .before .before .before .size3 in
-    let test = c .before .before .before .before .before .before .before .before .before .before .if1 in
-    let witnesses = c .before .before .before .before .before .before .before .witnesses in
+    let a = c .before .before .before .before .before .before .before .before .before .before .before .before .before .before .before .before .before .before .before .before .before .before .before .before in
+    let sized = c .before .before .before .before .before .before .before .before .before .before .before .before .before .before .before .before .before .before .before .before .before .before .size in
+    let l = c .before .before .before .before .before .before .before .before .before .before .before .before .before .before .before .loop in
+    let sized3 = c .before .before .before .before .before .before .before .before .before .before .before .before .before .size3 in
+    let test = c .before .before .before .before .before .before .before .before .before .before .before .before .if1 in
+    let witnesses = c .before .before .before .before .before .before .before .before .witnesses in
     let low2 = c .before .lowest2 in
     let q = a .pre .0 in (
       q,
@@ -164,8 +166,8 @@ extended-requires-2 c κs =
 
 add-b-2 : tie.Need-add-b-2 Inv-loop μ-loop
 add-b-2 c =
-    let a = c .before .before .before .before .before .before .before .before .before .before .before .before .before .before .before .before .before .before .before .before .before .before in
-    let ends = c .before .before .before .before .before .before .before .before .before .before .before .before .before .loop-test in
+    let a = c .before .before .before .before .before .before .before .before .before .before .before .before .before .before .before .before .before .before .before .before .before .before .before .before .before in
+    let ends = c .before .before .before .before .before .before .before .before .before .before .before .before .before .before .before .loop-test in
     omega (arith, ends .taken, a .fits .enough .fits)
 
 loop-less : tie.Need-loop-less Inv-loop μ-loop
@@ -173,12 +175,12 @@ loop-less c = search needs
 
 loop-again : tie.Need-loop-again Inv-loop μ-loop
 loop-again c =
-    let a = c .before .before .before .before .before .before .before .before .before .before .before .before .before .before .before .before .before .before .before .before .before .before in
-    let sized = c .before .before .before .before .before .before .before .before .before .before .before .before .before .before .before .before .before .before .before .before .before .size in
-    let l = c .before .before .before .before .before .before .before .before .before .before .before .before .before .before .loop in
-    let sized3 = c .before .before .before .before .before .before .before .before .before .before .before .before .size3 in
-    let test = c .before .before .before .before .before .before .before .before .before .before .before .if1 in
-    let witnesses = c .before .before .before .before .before .before .before .before .witnesses in
+    let a = c .before .before .before .before .before .before .before .before .before .before .before .before .before .before .before .before .before .before .before .before .before .before .before .before .before in
+    let sized = c .before .before .before .before .before .before .before .before .before .before .before .before .before .before .before .before .before .before .before .before .before .before .before .size in
+    let l = c .before .before .before .before .before .before .before .before .before .before .before .before .before .before .before .before .loop in
+    let sized3 = c .before .before .before .before .before .before .before .before .before .before .before .before .before .before .size3 in
+    let test = c .before .before .before .before .before .before .before .before .before .before .before .before .before .if1 in
+    let witnesses = c .before .before .before .before .before .before .before .before .before .witnesses in
     let low2 = c .before .before .lowest2 in
     λ m k.
     rw (add-one (l .b))
@@ -188,7 +190,7 @@ loop-again c =
 
 returns-4 : tie.Need-returns-4 Inv-loop μ-loop
 returns-4 c =
-    let a = c .before .before .before .before .before .before .before .before .before in
+    let a = c .before .before .before .before .before .before .before .before .before .before in
     let l = c .before .loop in
     λ m k.
     record {

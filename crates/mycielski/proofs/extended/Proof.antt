@@ -29,15 +29,15 @@ abbrev μ-loop : tie.MeasureT-loop
 mul-row : tie.Need-mul-row Inv-loop μ-loop
 mul-row c = search needs
 
-element-copy-out-row : tie.Need-element-copy-out-row Inv-loop μ-loop
-element-copy-out-row c = search needs
+shared-slice-read-row : tie.Need-shared-slice-read-row Inv-loop μ-loop
+shared-slice-read-row c = search needs
 
 with-requires : tie.Need-with-requires Inv-loop μ-loop
 with-requires c κs = search needs
 
 loop-holds : tie.Need-loop-holds Inv-loop μ-loop
 loop-holds c =
-    let a = c .before .before .before .args in
+    let a = c .before .before .before .before .args in
     let l : length (a .p .near) ≡ 64 = search needs in
     (λ x t. t, l, λ m k i t. extending-start (holding (a .live) (a .rows .now) m) k (a .p) i (a .w) t (c .with .result) l (c .with .ensures))
 
@@ -55,7 +55,7 @@ meet-requires c κs = search needs
 
 lowest-requires-2 : tie.Need-lowest-requires-2 Inv-loop μ-loop
 lowest-requires-2 c κs =
-    let a = c .before .before .before .before .before .before .before .before in
+    let a = c .before .before .before .before .before .before .before .before .before in
     let l = c .before .before .before .before .loop in
     let v = c .before .before .lowest in
     let q = a .pre .0 in
@@ -89,7 +89,7 @@ loop-less c =
 
 loop-again : tie.Need-loop-again Inv-loop μ-loop
 loop-again c =
-    let a = c .before .before .before .before .before .before .before .before .before .before .before .before .before .before in
+    let a = c .before .before .before .before .before .before .before .before .before .before .before .before .before .before .before in
     let b = c .before .before .before .before .before .before .before .before .before .before .loop in
     let v = c .before .before .before .before .before .before .before .before .lowest in
     let met = c .before .before .before .before .before .before .meet in
@@ -108,7 +108,7 @@ loop-again c =
 
 returns : tie.Need-returns Inv-loop μ-loop
 returns c =
-    let a = c .before .before .before .before .before in
+    let a = c .before .before .before .before .before .before in
     let b = c .before .loop in
     λ m k.
     let h = holding (a .args .live) (a .args .rows .now) m in
@@ -123,7 +123,7 @@ extended-spec =
     Inv-loop
     μ-loop
     mul-row
-    element-copy-out-row
+    shared-slice-read-row
     with-requires
     loop-holds
     lowest-requires

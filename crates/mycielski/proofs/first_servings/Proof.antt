@@ -33,7 +33,7 @@ less-requires c κs = search needs
 
 loop-holds : tie.Need-loop-holds Inv-loop μ-loop
 loop-holds c =
-    let a = c .before .before .args in
+    let a = c .before .before .before .args in
     (λ x t. t, search needs, λ m k. fitting-start 64 (a .c) (λ v. nearAll (m .n) (view (holding (a .live) (a .rows .now) m)) (everyEdge (has (a .c)) .edge v)))
 
 lowest-requires : tie.Need-lowest-requires Inv-loop μ-loop
@@ -42,8 +42,8 @@ lowest-requires c κs = search needs
 mul-meet : tie.Need-mul-meet Inv-loop μ-loop
 mul-meet c = search needs
 
-element-copy-out-meet : tie.Need-element-copy-out-meet Inv-loop μ-loop
-element-copy-out-meet c = search needs
+shared-slice-read-meet : tie.Need-shared-slice-read-meet Inv-loop μ-loop
+shared-slice-read-meet c = search needs
 
 meet-requires : tie.Need-meet-requires Inv-loop μ-loop
 meet-requires c κs = search needs
@@ -67,7 +67,7 @@ loop-less c =
 
 loop-again : tie.Need-loop-again Inv-loop μ-loop
 loop-again c =
-    let a = c .before .before .before .before .before .before .before .before .before in
+    let a = c .before .before .before .before .before .before .before .before .before .before in
     let l = c .before .before .before .before .before .before .before .before .lacking in
     let f = c .before .before .before .before .before .before .before .less in
     let b = c .before .before .before .before .before .before .loop in
@@ -80,14 +80,14 @@ loop-again c =
           fitting-again 64 (a .args .c) (λ v. nearAll (m .n) (view (holding (a .args .live) (a .args .rows .now) m)) (everyEdge (has (a .args .c)) .edge v)) (b .fit) (b .left)
           (v .result) (cut2 .result) (c .rest .result)
           (b .inv .2 m k) (v .ensures)
-          (first-serving (holding (a .args .live) (a .args .rows .now) m) k (a .args .c) (a .pre) (l .result) (l .ensures) (v .result) (f .result) (met .result) (cut2 .result)
+          (first-serving (holding (a .args .live) (a .args .rows .now) m) k (a .args .c) (a .pre .1) (l .result) (l .ensures) (v .result) (f .result) (met .result) (cut2 .result)
           (b .inv .0 (v .result) (v .ensures .member)) (f .ensures) (met .ensures) (cut2 .ensures))
           (c .rest .ensures (v .result) (v .ensures)),
     )
 
 returns : tie.Need-returns Inv-loop μ-loop
 returns c =
-    let a = c .before .before .before .before .args in
+    let a = c .before .before .before .before .before .args in
     let b = c .before .loop in
     λ m k.
     let s : ℕ → ℕ → Bool = λ v. nearAll (m .n) (view (holding (a .live) (a .rows .now) m)) (everyEdge (has (a .c)) .edge v) in
@@ -104,7 +104,7 @@ first-servings-spec =
     loop-holds
     lowest-requires
     mul-meet
-    element-copy-out-meet
+    shared-slice-read-meet
     meet-requires
     less-requires-2
     mul-fit

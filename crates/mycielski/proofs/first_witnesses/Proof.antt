@@ -36,7 +36,7 @@ outside-requires c κs = search needs
 
 loop-holds : tie.Need-loop-holds Inv-loop μ-loop
 loop-holds c =
-    let a = c .before .before .before .args in
+    let a = c .before .before .before .before .args in
     (λ x t. t, λ m k i. witness-start (holding (a .live) (a .rows .now) m) k (a .c) (everyEdge (has (a .c)) .edge) i (c .outside .result))
 
 lowest-requires : tie.Need-lowest-requires Inv-loop μ-loop
@@ -45,8 +45,8 @@ lowest-requires c κs = search needs
 mul-meet : tie.Need-mul-meet Inv-loop μ-loop
 mul-meet c = search needs
 
-element-copy-out-meet : tie.Need-element-copy-out-meet Inv-loop μ-loop
-element-copy-out-meet c = search needs
+shared-slice-read-meet : tie.Need-shared-slice-read-meet Inv-loop μ-loop
+shared-slice-read-meet c = search needs
 
 meet-requires : tie.Need-meet-requires Inv-loop μ-loop
 meet-requires c κs = search needs
@@ -62,7 +62,7 @@ meet-requires-2 c κs = search needs
 
 returns : tie.Need-returns Inv-loop μ-loop
 returns c =
-    let a = c .before .before .before .before .before .before .before .before .before .before .before .before in
+    let a = c .before .before .before .before .before .before .before .before .before .before .before .before .before in
     let cut = c .before .before .before .before .before .before .before .before .before .before .less in
     let b = c .before .before .before .before .before .before .before .before .loop in
     let met = c .before .before .before .before .meet in
@@ -76,14 +76,14 @@ returns c =
     let l = c .before .before .before .before .before .before .before .before .before .before .before .lacking in
     let v = c .before .before .before .before .before .before .lowest in
     let out = (b .left) - bitAnd (b .left) (2 ^ (v .result)) in
-    let s = first-serving h k (a .args .c) (a .pre) (l .result) (l .ensures) (v .result) (cut .result) (met .result) (cut2 .result)
+    let s = first-serving h k (a .args .c) (a .pre .1) (l .result) (l .ensures) (v .result) (cut .result) (met .result) (cut2 .result)
     (b .inv .0 (v .result) (v .ensures .member)) (cut .ensures) (met .ensures) (cut2 .ensures) in
-    witness-none h k (a .args .c) e (a .pre) (f .result) (f .ensures .within)
-    (outside-among h k (a .args .c) (a .pre) (l .result) (l .ensures) (f .result) (f .ensures)) out
-    (subst (λ w. Witness h k (a .args .c) e (a .pre) (f .result) w out) (c .if1 .taken)
-    (witness-more h k (a .args .c) e (a .pre) (f .result) (f .ensures .within) (b .ws) (b .left) (v .result) (cut2 .result)
-    (reached .result) (met2 .result) out (b .inv .1 m k (a .pre)) (v .ensures) s
-    (reached .ensures (a .args .live) (serving-live h k (a .args .c) e (a .pre) (v .result) (cut2 .result) s) m k)
+    witness-none h k (a .args .c) e (a .pre .1) (f .result) (f .ensures .within)
+    (outside-among h k (a .args .c) (a .pre .1) (l .result) (l .ensures) (f .result) (f .ensures)) out
+    (subst (λ w. Witness h k (a .args .c) e (a .pre .1) (f .result) w out) (c .if1 .taken)
+    (witness-more h k (a .args .c) e (a .pre .1) (f .result) (f .ensures .within) (b .ws) (b .left) (v .result) (cut2 .result)
+    (reached .result) (met2 .result) out (b .inv .1 m k (a .pre .1)) (v .ensures) s
+    (reached .ensures (a .args .live) (serving-live h k (a .args .c) e (a .pre .1) (v .result) (cut2 .result) s) m k)
     (met2 .ensures) (without-is (b .left) (v .result))))
 
 rest-requires : tie.Need-rest-requires Inv-loop μ-loop
@@ -97,7 +97,7 @@ loop-less c =
 
 loop-again : tie.Need-loop-again Inv-loop μ-loop
 loop-again c =
-    let a = c .before .before .before .before .before .before .before .before .before .before .before .before .before in
+    let a = c .before .before .before .before .before .before .before .before .before .before .before .before .before .before in
     let l = c .before .before .before .before .before .before .before .before .before .before .before .before .lacking in
     let cut = c .before .before .before .before .before .before .before .before .before .before .before .less in
     let f = c .before .before .before .before .before .before .before .before .before .before .outside in
@@ -121,16 +121,16 @@ loop-again c =
 
 returns-2 : tie.Need-returns-2 Inv-loop μ-loop
 returns-2 c =
-    let a = c .before .before .before .before .before in
+    let a = c .before .before .before .before .before .before in
     let b = c .before .loop in
     let f = c .before .before .outside in
     let l = c .before .before .before .before .lacking in
     λ m k.
     let h = holding (a .args .live) (a .args .rows .now) m in
     let e = everyEdge (has (a .args .c)) .edge in
-    witness-end h k (a .args .c) e (a .pre) (f .result) (f .ensures .within)
-    (outside-among h k (a .args .c) (a .pre) (l .result) (l .ensures) (f .result) (f .ensures)) (b .ws)
-    (subst (λ q. Witness h k (a .args .c) e (a .pre) (f .result) (b .ws) q) (c .loop-test .left) (b .inv .1 m k (a .pre)))
+    witness-end h k (a .args .c) e (a .pre .1) (f .result) (f .ensures .within)
+    (outside-among h k (a .args .c) (a .pre .1) (l .result) (l .ensures) (f .result) (f .ensures)) (b .ws)
+    (subst (λ q. Witness h k (a .args .c) e (a .pre .1) (f .result) (b .ws) q) (c .loop-test .left) (b .inv .1 m k (a .pre .1)))
 
 pub first-witnesses-spec : {M : Type 1} → statement M
 first-witnesses-spec =
@@ -144,7 +144,7 @@ first-witnesses-spec =
     loop-holds
     lowest-requires
     mul-meet
-    element-copy-out-meet
+    shared-slice-read-meet
     meet-requires
     less-requires-2
     reached-requires

@@ -14,7 +14,7 @@ abbrev μ-loop : tie.MeasureT-loop
 μ-loop live rows c once₀ twice₀ left₀ once twice left = size 64 left
 
 loop-holds : tie.Need-loop-holds Inv-loop μ-loop
-loop-holds c = lacking-start 64 (c .args .live) (c .args .rows .now) (c .args .c)
+loop-holds c = lacking-start 64 (c .before .args .live) (c .before .args .rows .now) (c .before .args .c)
 
 lowest-requires : tie.Need-lowest-requires Inv-loop μ-loop
 lowest-requires c κs = search needs
@@ -22,8 +22,8 @@ lowest-requires c κs = search needs
 mul-less : tie.Need-mul-less Inv-loop μ-loop
 mul-less c = search needs
 
-element-copy-out-less : tie.Need-element-copy-out-less Inv-loop μ-loop
-element-copy-out-less c = search needs
+shared-slice-read-less : tie.Need-shared-slice-read-less Inv-loop μ-loop
+shared-slice-read-less c = search needs
 
 less-requires : tie.Need-less-requires Inv-loop μ-loop
 less-requires c κs = search needs
@@ -48,7 +48,7 @@ loop-less c =
 
 loop-again : tie.Need-loop-again Inv-loop μ-loop
 loop-again c =
-    let a = c .before .before .before .before .before .before .before .before .before .args in
+    let a = c .before .before .before .before .before .before .before .before .before .before .args in
     let b = c .before .before .before .before .before .before .before .before .loop in
     let low = c .before .before .before .before .before .before .lowest in
     let cut = c .before .before .before .before .less in
@@ -60,7 +60,7 @@ loop-again c =
 
 returns : tie.Need-returns Inv-loop μ-loop
 returns c =
-    let a = c .before .before .args in
+    let a = c .before .before .before .args in
     let b = c .before .loop in
     lacking-end 64 (a .live) (a .rows .now) (a .c) (b .once) (b .twice)
     (subst (λ l. Lacking 64 (a .live) (a .rows .now) (a .c) (b .once) (b .twice) l) (c .loop-test .left) (b .inv))
@@ -74,7 +74,7 @@ lacking-spec =
     loop-holds
     lowest-requires
     mul-less
-    element-copy-out-less
+    shared-slice-read-less
     less-requires
     meet-requires
     join-requires

@@ -20,7 +20,7 @@ abbrev μ-loop : tie.MeasureT-loop
 μ-loop rows s r₀ left₀ r left = size 64 left
 
 loop-holds : tie.Need-loop-holds Inv-loop μ-loop
-loop-holds c = (λ x t. t, λ l m k w. reached-start (holding l (c .args .rows .now) m) k (c .args .s))
+loop-holds c = (λ x t. t, λ l m k w. reached-start (holding l (c .before .args .rows .now) m) k (c .before .args .s))
 
 lowest-requires : tie.Need-lowest-requires Inv-loop μ-loop
 lowest-requires c κs = search needs
@@ -28,8 +28,8 @@ lowest-requires c κs = search needs
 mul-join : tie.Need-mul-join Inv-loop μ-loop
 mul-join c = search needs
 
-element-copy-out-join : tie.Need-element-copy-out-join Inv-loop μ-loop
-element-copy-out-join c = search needs
+shared-slice-read-join : tie.Need-shared-slice-read-join Inv-loop μ-loop
+shared-slice-read-join c = search needs
 
 join-requires : tie.Need-join-requires Inv-loop μ-loop
 join-requires c κs = search needs
@@ -45,7 +45,7 @@ loop-less c =
 
 loop-again : tie.Need-loop-again Inv-loop μ-loop
 loop-again c =
-    let a = c .before .before .before .before .before .before in
+    let a = c .before .before .before .before .before .before .before in
     let b = c .before .before .before .before .before .loop in
     let low = c .before .before .before .lowest in
     let both = c .before .join in (
@@ -57,7 +57,7 @@ loop-again c =
 
 returns : tie.Need-returns Inv-loop μ-loop
 returns c =
-    let a = c .before .before in
+    let a = c .before .before .before in
     let b = c .before .loop in
     λ l w m k.
     let h = holding l (a .args .rows .now) m in
@@ -72,7 +72,7 @@ reached-spec =
     loop-holds
     lowest-requires
     mul-join
-    element-copy-out-join
+    shared-slice-read-join
     join-requires
     rest-requires
     loop-less

@@ -19,7 +19,7 @@ abbrev μ-loop : tie.MeasureT-loop
 μ-loop live rows near s₀ left₀ s left = size 64 left
 
 loop-holds : tie.Need-loop-holds Inv-loop μ-loop
-loop-holds c = (λ x t. t, λ m k l. serving-start (holding (c .args .live) (c .args .rows .now) m) k (c .args .near))
+loop-holds c = (λ x t. t, λ m k l. serving-start (holding (c .before .args .live) (c .before .args .rows .now) m) k (c .before .args .near))
 
 lowest-requires : tie.Need-lowest-requires Inv-loop μ-loop
 lowest-requires c κs = search needs
@@ -27,8 +27,8 @@ lowest-requires c κs = search needs
 mul-meet : tie.Need-mul-meet Inv-loop μ-loop
 mul-meet c = search needs
 
-element-copy-out-meet : tie.Need-element-copy-out-meet Inv-loop μ-loop
-element-copy-out-meet c = search needs
+shared-slice-read-meet : tie.Need-shared-slice-read-meet Inv-loop μ-loop
+shared-slice-read-meet c = search needs
 
 meet-requires : tie.Need-meet-requires Inv-loop μ-loop
 meet-requires c κs = search needs
@@ -44,7 +44,7 @@ loop-less c =
 
 loop-again : tie.Need-loop-again Inv-loop μ-loop
 loop-again c =
-    let a = c .before .before .before .before .before .before in
+    let a = c .before .before .before .before .before .before .before in
     let b = c .before .before .before .before .before .loop in
     let low = c .before .before .before .lowest in
     let met = c .before .meet in (
@@ -56,11 +56,11 @@ loop-again c =
 
 returns : tie.Need-returns Inv-loop μ-loop
 returns c =
-    let a = c .before .before in
+    let a = c .before .before .before in
     let b = c .before .loop in
     λ m k.
     let h = holding (a .args .live) (a .args .rows .now) m in
-    serving-end h k (a .args .near) (b .s) (subst (λ l. Serving h k (a .args .near) (b .s) l) (c .loop-test .left) (b .inv .1 m k (a .pre)))
+    serving-end h k (a .args .near) (b .s) (subst (λ l. Serving h k (a .args .near) (b .s) l) (c .loop-test .left) (b .inv .1 m k (a .pre .1)))
 
 pub serving-spec : {M : Type 1} → statement M
 serving-spec =
@@ -71,7 +71,7 @@ serving-spec =
     loop-holds
     lowest-requires
     mul-meet
-    element-copy-out-meet
+    shared-slice-read-meet
     meet-requires
     rest-requires
     loop-less

@@ -23,7 +23,7 @@ abbrev μ-loop : tie.MeasureT-loop
 
 loop-holds : tie.Need-loop-holds Inv-loop μ-loop
 loop-holds c =
-    let a = c .args in
+    let a = c .before .before .args in
     (search needs, λ m k. fitting-start 64 (a .set) (λ v. nearAll (m .n) (view (holding (a .live) (a .rows .now) m)) (has (getD (a .near .now) v 0))))
 
 lowest-requires : tie.Need-lowest-requires Inv-loop μ-loop
@@ -32,11 +32,11 @@ lowest-requires c κs = search needs
 mul-serving : tie.Need-mul-serving Inv-loop μ-loop
 mul-serving c = search needs
 
-element-copy-out-serving : tie.Need-element-copy-out-serving Inv-loop μ-loop
-element-copy-out-serving c = search needs
+shared-slice-read-serving : tie.Need-shared-slice-read-serving Inv-loop μ-loop
+shared-slice-read-serving c = search needs
 
 serving-requires : tie.Need-serving-requires Inv-loop μ-loop
-serving-requires c κs = λ x t. c .before .before .before .before .pre .ends (c .before .lowest .result) x t
+serving-requires c κs = let a = c .before .before .before .before .before .before in (a .pre .0 .0, λ x t. a .pre .1 .ends (c .before .lowest .result) x t)
 
 mul-fit : tie.Need-mul-fit Inv-loop μ-loop
 mul-fit c = search needs
@@ -54,7 +54,7 @@ loop-less c =
 
 loop-again : tie.Need-loop-again Inv-loop μ-loop
 loop-again c =
-    let a = c .before .before .before .before .before .before .args in
+    let a = c .before .before .before .before .before .before .before .before .args in
     let b = c .before .before .before .before .before .loop in
     let v = c .before .before .before .lowest in
     let serving = c .before .serving in (
@@ -67,7 +67,7 @@ loop-again c =
 
 returns : tie.Need-returns Inv-loop μ-loop
 returns c =
-    let a = c .before .before .args in
+    let a = c .before .before .before .before .args in
     let b = c .before .loop in
     λ m k.
     let s : ℕ → ℕ → Bool = λ v. nearAll (m .n) (view (holding (a .live) (a .rows .now) m)) (has (getD (a .near .now) v 0)) in
@@ -82,7 +82,7 @@ servings-spec =
     loop-holds
     lowest-requires
     mul-serving
-    element-copy-out-serving
+    shared-slice-read-serving
     serving-requires
     mul-fit
     array-write-fit

@@ -26,7 +26,7 @@ abbrev μ-loop : tie.MeasureT-loop
 
 loop-holds : tie.Need-loop-holds Inv-loop μ-loop
 loop-holds c =
-    let a = c .args in
+    let a = c .before .before .args in
     (λ x t. t, λ m k i. witness-start (holding (a .live) (a .rows .now) m) k (a .set) (λ x y. has (getD (a .near .now) x 0) y) i (a .live))
 
 lowest-requires : tie.Need-lowest-requires Inv-loop μ-loop
@@ -35,11 +35,11 @@ lowest-requires c κs = search needs
 mul-serving : tie.Need-mul-serving Inv-loop μ-loop
 mul-serving c = search needs
 
-element-copy-out-serving : tie.Need-element-copy-out-serving Inv-loop μ-loop
-element-copy-out-serving c = search needs
+shared-slice-read-serving : tie.Need-shared-slice-read-serving Inv-loop μ-loop
+shared-slice-read-serving c = search needs
 
 serving-requires : tie.Need-serving-requires Inv-loop μ-loop
-serving-requires c κs = λ x t. c .before .before .before .before .pre .ends (c .before .lowest .result) x t
+serving-requires c κs = let a = c .before .before .before .before .before .before in (a .pre .0 .0, λ x t. a .pre .1 .ends (c .before .lowest .result) x t)
 
 reached-requires : tie.Need-reached-requires Inv-loop μ-loop
 reached-requires c κs = search needs
@@ -49,7 +49,7 @@ meet-requires c κs = search needs
 
 returns : tie.Need-returns Inv-loop μ-loop
 returns c =
-    let a = c .before .before .before .before .before .before .before .before in
+    let a = c .before .before .before .before .before .before .before .before .before .before in
     let b = c .before .before .before .before .before .before .before .loop in
     let reached = c .before .before .reached in
     let met = c .before .meet in
@@ -58,7 +58,7 @@ returns c =
     let v = c .before .before .before .before .before .lowest in
     let s = c .before .before .before .serving in
     let out = (b .left) - bitAnd (b .left) (2 ^ (v .result)) in
-    let i = a .pre .verts in
+    let i = a .pre .1 .verts in
     witness-none h k (a .args .set) (λ x y. has (getD (a .args .near .now) x 0) y) i (a .args .live) (λ x t. t)
     (live-among h k (a .args .set) (λ x y. has (getD (a .args .near .now) x 0) y) i) out
     (subst (λ w. Witness h k (a .args .set) (λ x y. has (getD (a .args .near .now) x 0) y) i (a .args .live) w out) (c .if1 .taken)
@@ -78,7 +78,7 @@ loop-less c =
 
 loop-again : tie.Need-loop-again Inv-loop μ-loop
 loop-again c =
-    let a = c .before .before .before .before .before .before .before .before .before in
+    let a = c .before .before .before .before .before .before .before .before .before .before .before in
     let b = c .before .before .before .before .before .before .before .before .loop in
     let v = c .before .before .before .before .before .before .lowest in
     let s = c .before .before .before .before .serving in
@@ -95,9 +95,9 @@ loop-again c =
 
 returns-2 : tie.Need-returns-2 Inv-loop μ-loop
 returns-2 c =
-    let a = c .before .before in
+    let a = c .before .before .before .before in
     let b = c .before .loop in
-    let i = a .pre .verts in
+    let i = a .pre .1 .verts in
     λ m k.
     let h = holding (a .args .live) (a .args .rows .now) m in
     witness-end h k (a .args .set) (λ x y. has (getD (a .args .near .now) x 0) y) i (a .args .live) (λ x t. t)
@@ -113,7 +113,7 @@ witnesses-spec =
     loop-holds
     lowest-requires
     mul-serving
-    element-copy-out-serving
+    shared-slice-read-serving
     serving-requires
     reached-requires
     meet-requires

@@ -1,22 +1,27 @@
 -- `steps::enter` and `steps::split` meet their contracts: a cycle of two functions, whose measures are twice the live vertices, and one more where a node
--- is entered. `split` loops on the separations, each of which leaves fewer pairs open. Assumes nothing.
+-- is entered. `split` loops on the separations, each of which leaves fewer pairs open; mergings are undone as it goes, separations by `enter` from the
+-- trail. Assumes nothing.
 use mathlib.Core.Path.{_≡_, refl, sym, ap, _∙_}
+use mathlib.Core.Bool.{false}
+use mathlib.Core.List.{List}
 use mathlib.Core.Option.{some}
-use Prim.Native.Nat.{ℕ, _+_, _*_, _<_}
+use Prim.Native.Nat.{ℕ, _+_, _*_, _^_, _<_}
 use native.Mathlib.Omega.{arith}
 use borrow.Author.Needs.{needs}
-use Rattle.graphs.specs.Graph.{pair, merge, separate}
-use Rattle.graphs.specs.Held.{view, node, choiceOf}
-use Rattle.graphs.specs.Acts.{AtPair, Becomes}
+use lib.ListN.{length}
+use Rattle.wide.specs.declared.Set.{Set}
+use Rattle.graphs.specs.Graph.{pair}
+use Rattle.graphs.specs.Held.{view, choiceOf}
 use Rattle.graphs.specs.declared.Node.{Node}
 use Rattle.zykov.specs.Walk.{Rule, bounded}
-use Rattle.zykov.specs.Tree.{below}
-use Rattle.zykov.specs.Budget.{within, onward}
+use Rattle.zykov.specs.Budget.{onward}
 use Rattle.bounds.specs.Names.{mycielskian}
-use Rattle.steps.specs.Going.{stateOf, Ready, ReadyAt, Comes}
+use Rattle.steps.specs.Going.{Lent, lending, nodeIn, stateOf, Ready, Comes, Kept, Left, Enters}
 use Rattle.steps.specs.declared.State.{State}
-use Rattle.steps.proofs.Turns.{Counted, counted-on, comes-out, comes-cut, comes-leaf, comes-fork}
-use Rattle.steps.proofs.Splits.{living, open-pairs, at-pair, pair-bounds, merged-ready, merged-falls, onward-out, separated-ready, onward-on, separated-falls, separated-lives}
+use Rattle.steps.proofs.Turns.{Counted, counted-on, counted-ready, comes-out, comes-cut, comes-leaf, comes-fork}
+use Rattle.steps.proofs.Splits.{living, open-pairs}
+use Rattle.steps.proofs.Undoing.{form-few, form-same-long, left-none, left-best, left-kept, kept-all, kept-best, kept-restored, laid-finds}
+use Rattle.steps.proofs.Rounds.{Apart, Back, round-pair, round-merges, round-enters, round-falls, round-unmerges, round-fits, round-back}
 use borrow.Fn.Kinds.{In}
 use borrow.Fn.PlainCycle.{Measures, is, falls, and}
 use Rattle.steps.proofs.enter.Reads as enter
@@ -25,63 +30,73 @@ use Rattle.steps.proofs.+enter+split.Lts-enter as enter-lts
 use Rattle.steps.proofs.split.Reads as split
 use Rattle.steps.proofs.split.Kinds as split-kinds
 use Rattle.steps.proofs.+enter+split.Lts-split as split-lts
-use Rattle.bounds.proofs.reaches.Reads as reaches-reads
-use Rattle.graphs.proofs.choose_among.Reads as choose-among-reads
-use Rattle.graphs.proofs.merge_rows.Reads as merge-rows-reads
-use Rattle.graphs.proofs.rename.Reads as rename-reads
-use Rattle.graphs.proofs.separate_rows.Reads as separate-rows-reads
-use Rattle.sets.proofs.without.Reads as without-reads
+use Rattle.seam.proofs.choose_among.Reads as choose-among-reads
+use Rattle.seam.proofs.reaches.Reads as reaches-reads
 use Rattle.steps.proofs.counted.Reads as counted-reads
 use Rattle.steps.proofs.improved.Reads as improved-reads
+use Rattle.steps.proofs.merge_at.Reads as merge-at-reads
+use Rattle.steps.proofs.separate_at.Reads as separate-at-reads
+use Rattle.steps.proofs.unmerge_at.Reads as unmerge-at-reads
+use Rattle.undo.proofs.restore.Reads as restore-reads
+use Rattle.wide.proofs.without.Reads as without-reads
 use Rattle.steps.proofs.+enter+split.{statement}
 use Rattle.steps.proofs.+enter+split.Tie.{close}
 
 abbrev rule : ℕ → Rule
 rule n = bounded n mycielskian
 
--- from s the walk below h comes to r
-abbrev Entered : Node → State → State → Type 0
-Entered h s r = Comes (h .n) s r (within (rule (h .n)) (s .budget) (below (h .n) (view h)) (stateOf (h .n) s))
+-- from s, what is left of the walk below the node held in l, which is entered already and split at u and v, comes to best and r
+abbrev Onwards : ℕ → ℕ → Set → Lent → ℕ → ℕ → State → List ℕ → State → Type 0
+Onwards words n live l u v s best r = Comes n s best r (onward (rule n) (s .budget) n (view (nodeIn words n live l)) u v (stateOf n (l .best) s))
 
--- and so does what is left of it where h is entered already and split at u and v
-abbrev Onward : Node → ℕ → ℕ → State → State → Type 0
-Onward h u v s r = Comes (h .n) s r (onward (rule (h .n)) (s .budget) (h .n) (view h) u v (stateOf (h .n) s))
+abbrev μ-enter : Measures 4 enter-kinds.ps ℕ
+μ-enter κs a = living (nodeIn (a .0) (a .1 .0) (a .1 .1 .0) (lending (a .1 .1 .1 .0 .now) (a .1 .1 .1 .1 .0 .now) (a .1 .1 .1 .1 .1 .0 .now) (a .1 .1 .1 .1 .1 .1 .0 .now))) * 2 + 1
 
-abbrev μ-enter : Measures 2 enter-kinds.ps ℕ
-μ-enter κs a = living (node (a .0) (a .1 .0) (a .1 .1 .0 .now) (a .1 .1 .1 .0 .now)) * 2 + 1
+abbrev μ-split : Measures 4 split-kinds.ps ℕ
+μ-split κs a = living (nodeIn (a .0) (a .1 .0) (a .1 .1 .0) (lending (a .1 .1 .1 .0 .now) (a .1 .1 .1 .1 .0 .now) (a .1 .1 .1 .1 .1 .0 .now) (a .1 .1 .1 .1 .1 .1 .0 .now))) * 2
 
-abbrev μ-split : Measures 2 split-kinds.ps ℕ
-μ-split κs a = living (node (a .0) (a .1 .0) (a .1 .1 .0 .now) (a .1 .1 .1 .0 .now)) * 2
+abbrev enter-at : ℕ → In 4 enter-kinds.ps
+enter-at t = and 4 enter-kinds.ps (is 4 enter-kinds.ps μ-enter t) enter.Pre
 
-abbrev enter-at : ℕ → In 2 enter-kinds.ps
-enter-at t = and 2 enter-kinds.ps (is 2 enter-kinds.ps μ-enter t) enter.Pre
+abbrev enter-below : ℕ → In 4 enter-kinds.ps
+enter-below t = and 4 enter-kinds.ps (falls 4 enter-kinds.ps _<_ μ-enter t) enter.Pre
 
-abbrev enter-below : ℕ → In 2 enter-kinds.ps
-enter-below t = and 2 enter-kinds.ps (falls 2 enter-kinds.ps _<_ μ-enter t) enter.Pre
+abbrev split-at : ℕ → In 4 split-kinds.ps
+split-at t = and 4 split-kinds.ps (is 4 split-kinds.ps μ-split t) split.Pre
 
-abbrev split-at : ℕ → In 2 split-kinds.ps
-split-at t = and 2 split-kinds.ps (is 2 split-kinds.ps μ-split t) split.Pre
-
-abbrev split-below : ℕ → In 2 split-kinds.ps
-split-below t = and 2 split-kinds.ps (falls 2 split-kinds.ps _<_ μ-split t) split.Pre
+abbrev split-below : ℕ → In 4 split-kinds.ps
+split-below t = and 4 split-kinds.ps (falls 4 split-kinds.ps _<_ μ-split t) split.Pre
 
 -- what enter knows of its callees
 abbrev enter-claims : ℕ → enter-lts.Claims
-enter-claims t = (counted-reads.Asked, counted-reads.Learnt, reaches-reads.Asked, reaches-reads.Learnt, choose-among-reads.Asked, choose-among-reads.Learnt, improved-reads.Asked, improved-reads.Learnt, split-below t, split.Post)
+enter-claims t = (
+  counted-reads.Asked,
+  counted-reads.Learnt,
+  reaches-reads.Asked,
+  reaches-reads.Learnt,
+  choose-among-reads.Asked,
+  choose-among-reads.Learnt,
+  improved-reads.Asked,
+  improved-reads.Learnt,
+  split-below t,
+  split.Post,
+  restore-reads.Asked,
+  restore-reads.Learnt,
+)
 
 -- what split knows of its callees
 abbrev split-claims : ℕ → split-lts.Claims
 split-claims t = (
-  merge-rows-reads.Asked,
-  merge-rows-reads.Learnt,
-  rename-reads.Asked,
-  rename-reads.Learnt,
+  merge-at-reads.Asked,
+  merge-at-reads.Learnt,
   without-reads.Asked,
   without-reads.Learnt,
   enter-below t,
   enter.Post,
-  separate-rows-reads.Asked,
-  separate-rows-reads.Learnt,
+  unmerge-at-reads.Asked,
+  unmerge-at-reads.Learnt,
+  separate-at-reads.Asked,
+  separate-at-reads.Learnt,
   counted-reads.Asked,
   counted-reads.Learnt,
   reaches-reads.Asked,
@@ -94,253 +109,498 @@ split-claims t = (
 
 -- ---- enter
 
--- the node that is entered
-abbrev here : (t : ℕ) → enter-lts.Start (enter-claims t) (enter-at t) enter.Post → Node
-here t a = node (a .args .n) (a .args .live) (a .args .rows .now) (a .args .names .now)
+module _ (t : ℕ) where
+  abbrev Starting : Type 0
+  Starting = enter-lts.Start (enter-claims t) (enter-at t) enter.Post
 
--- it is counted
-enter-on : (t : ℕ) (c : enter-lts.Else1 (enter-claims t) (enter-at t) enter.Post) → Counted (c .before .before .args .n) (c .before .before .args .s) (c .before .counted .result)
-enter-on t c =
-    let a = c .before .before in
-    counted-on (a .args .s) (c .before .counted .result) (a .pre .1 .going) (c .before .counted .ensures) (a .args .n) (a .pre .1 .fair) (c .if1 .left)
+  -- what is lent, and the node that is entered
+  abbrev lent-to : Starting → Lent
+  lent-to c = lending (c .args .rows .now) (c .args .names .now) (c .args .best .now) (c .args .trail .now)
 
--- the walk may go on below it
-enter-ready : (t : ℕ) (c : enter-lts.Else1 (enter-claims t) (enter-at t) enter.Post) → Ready (here t (c .before .before)) (c .before .counted .result)
-enter-ready t c = let n = enter-on t c in record { held = c .before .before .pre .1 .held; fair = n .fair; going = n .going }
+  abbrev here : Starting → Node
+  here c = nodeIn (c .args .words) (c .args .n) (c .args .live) (lent-to c)
 
-enter-counted-requires : (t : ℕ) → enter-lts.Need-counted-requires (enter-claims t) (enter-at t) enter.Post
-enter-counted-requires t c κs = search needs
+  -- it is counted
+  abbrev Going : Type 0
+  Going = enter-lts.Else1 (enter-claims t) (enter-at t) enter.Post
 
-enter-returns : (t : ℕ) → enter-lts.Need-returns (enter-claims t) (enter-at t) enter.Post
-enter-returns t c =
-    let a = c .before .before in
-    comes-out (rule (a .args .n)) (here t a) (a .args .s) (a .pre .1) (c .before .counted .result) (c .before .counted .ensures) (c .if1 .taken)
+  abbrev begin : Going → Starting
+  begin c = c .before .before .before .before .before .before
 
-enter-reaches-requires : (t : ℕ) → enter-lts.Need-reaches-requires (enter-claims t) (enter-at t) enter.Post
-enter-reaches-requires t c κs = let a = c .before .before .before in (here t a, a .pre .1 .held)
+  enter-on : (c : Going) → Counted (begin c .args .n) (begin c .args .best .now) (begin c .args .s) (c .before .counted .result)
+  enter-on c =
+      let a = begin c in
+      counted-on (a .args .s) (c .before .counted .result) (a .pre .1 .ready .going) (c .before .counted .ensures) (a .args .n) (a .args .best .now) (a .pre .1 .ready .fair) (c .if1 .left)
 
-enter-returns-2 : (t : ℕ) → enter-lts.Need-returns-2 (enter-claims t) (enter-at t) enter.Post
-enter-returns-2 t c =
-    let e = c .before .before .before in
-    let a = e .before .before in
-    comes-cut (rule (a .args .n)) (here t a) (a .args .s) (a .pre .1) (e .before .counted .result) (enter-on t e) (sym (c .before .reaches .ensures (here t a) (a .pre .1 .held)) ∙ c .if2 .taken)
+  -- the walk may go on below it
+  enter-ready : (c : Going) → Ready (64 * begin c .args .words) (here (begin c)) (begin c .args .best .now) (c .before .counted .result)
+  enter-ready c =
+      let a = begin c in
+      counted-ready (rule (a .args .n)) (64 * a .args .words) (here a) (a .args .best .now) (a .args .s) (a .pre .1 .ready) (c .before .counted .result) (enter-on c)
 
-enter-choose-among-requires : (t : ℕ) → enter-lts.Need-choose-among-requires (enter-claims t) (enter-at t) enter.Post
-enter-choose-among-requires t c κs = let a = c .before .before .before .before .before .before in (here t a, a .pre .1 .held)
+  enter-counted-requires : enter-lts.Need-counted-requires (enter-claims t) (enter-at t) enter.Post
+  enter-counted-requires c κs = search needs
 
-enter-enum-told : (t : ℕ) → enter-lts.Need-enum-told (enter-claims t) (enter-at t) enter.Post
-enter-enum-told t c = search needs
+  enter-returns : enter-lts.Need-returns (enter-claims t) (enter-at t) enter.Post
+  enter-returns c =
+      let a = c .before .before .before .before .before .before in
+      let k = (c .before) .counted in
+      record {
+        comes = comes-out (rule (a .args .n)) (64 * a .args .words) (here a) (a .args .best .now) (a .args .s) (a .pre .1 .ready) (k .result) (k .ensures) (c .if1 .taken);
+        kept = kept-all (a .args .words) (lent-to a) (a .args .at) (a .pre .1 .laid .form);
+      }
 
-enter-improved-requires : (t : ℕ) → enter-lts.Need-improved-requires (enter-claims t) (enter-at t) enter.Post
-enter-improved-requires t c κs = enter-ready t (c .before .before .before .before .before .before .before .before)
+  enter-reaches-requires : enter-lts.Need-reaches-requires (enter-claims t) (enter-at t) enter.Post
+  enter-reaches-requires c κs = let a = c .before .before .before .before .before .before .before in (a .pre .1 .laid .form, (here a, a .pre .1 .ready .held))
 
-enter-enum-known-c : (t : ℕ) → enter-lts.Need-enum-known-c (enter-claims t) (enter-at t) enter.Post
-enter-enum-known-c t c = search needs
+  enter-same-length : enter-lts.Need-same-length (enter-claims t) (enter-at t) enter.Post
+  enter-same-length c = refl
 
-enter-split-requires : (t : ℕ) → enter-lts.Need-split-requires (enter-claims t) (enter-at t) enter.Post
-enter-split-requires t c κs =
-    let d = c .before .before .before .before in
-    let e = d .before .before .before .before .before in
-    let a = e .before .before in
-    let p : living (here t a) * 2 + 1 ≡ t = a .pre .0 in
-    (omega arith, record { ready = enter-ready t e; at = sym (d .choose-among .ensures (here t a) (a .pre .1 .held)) ∙ ap choiceOf (c .before .before .c .given .1) })
+  enter-returns-2 : enter-lts.Need-returns-2 (enter-claims t) (enter-at t) enter.Post
+  enter-returns-2 c =
+      let e = c .before .before .before in
+      let a = begin e in
+      record {
+        comes = comes-cut (rule (a .args .n)) (64 * a .args .words) (here a) (a .args .best .now) (a .args .s) (a .pre .1 .ready) (e .before .counted .result) (enter-on e)
+            (sym ((c .before) .reaches .ensures (here a) (a .pre .1 .ready .held)) ∙ c .if2 .taken);
+        kept = kept-all (a .args .words) (lent-to a) (a .args .at) (a .pre .1 .laid .form);
+      }
 
-enter-returns-3 : (t : ℕ) → enter-lts.Need-returns-3 (enter-claims t) (enter-at t) enter.Post
-enter-returns-3 t c =
-    let d = c .before .before .before .before in
-    let e = d .before .before .before .before .before in
-    let a = e .before .before in
-    comes-leaf (rule (a .args .n)) (here t a) (a .args .s) (a .pre .1) (e .before .counted .result) (enter-on t e)
-    (sym (d .before .before .before .reaches .ensures (here t a) (a .pre .1 .held)) ∙ d .before .before .if2 .left)
-    (sym (d .choose-among .ensures (here t a) (a .pre .1 .held)) ∙ ap choiceOf (c .before .before .enum-told .given .1)) (c .improved .result) (c .improved .ensures)
+  enter-choose-among-requires : enter-lts.Need-choose-among-requires (enter-claims t) (enter-at t) enter.Post
+  enter-choose-among-requires c κs = let a = c .before .before .before .before .before .before .before .before .before .before in (a .pre .1 .laid .form, (here a, a .pre .1 .ready .held))
 
-enter-returns-4 : (t : ℕ) → enter-lts.Need-returns-4 (enter-claims t) (enter-at t) enter.Post
-enter-returns-4 t c =
-    let d = c .before .before .before .before .before in
-    let e = d .before .before .before .before .before in
-    let a = e .before .before in
-    let k = c .before .before .before .c .given in
-    comes-fork (rule (a .args .n)) (here t a) (a .args .s) (a .pre .1) (e .before .counted .result) (enter-on t e)
-    (sym (d .before .before .before .reaches .ensures (here t a) (a .pre .1 .held)) ∙ d .before .before .if2 .left) (k .0 .0) (k .0 .1 .0)
-    (sym (d .choose-among .ensures (here t a) (a .pre .1 .held)) ∙ ap choiceOf (k .1)) (c .split .result) (c .split .ensures)
+  enter-enum-told : enter-lts.Need-enum-told (enter-claims t) (enter-at t) enter.Post
+  enter-enum-told c = search needs
 
--- what holds where a turn begins: what is left of the walk is what was left at first
-record Turn (g₀ : Node) (a₀ b₀ : ℕ) (t₀ : State) (g : Node) (a b : ℕ) (t : State) : Type 0 where
-  ready : ReadyAt g a b t
-  lives : living g ≡ living g₀
-  rest : (r : State) → Onward g a b t r → Onward g₀ a₀ b₀ t₀ r
+  enter-improved-requires : enter-lts.Need-improved-requires (enter-claims t) (enter-at t) enter.Post
+  enter-improved-requires c κs = let a = c .before .before .before .before .before .before .before .before .before .before .before .before .before .before .before in (a .pre .1 .laid .forest, laid-finds _ _ _ _ _ (a .pre .1 .laid) (a .pre .1 .ready .held))
 
-abbrev split-Inv-loop : split-lts.InvT-loop
-split-Inv-loop n live rows₀ names u v a₀ b₀ t₀ rows a b t = Turn (node n live rows₀ names) a₀ b₀ t₀ (node n live rows names) a b t
+  enter-enum-known-c : enter-lts.Need-enum-known-c (enter-claims t) (enter-at t) enter.Post
+  enter-enum-known-c c = search needs
 
-abbrev split-μ-loop : split-lts.MeasureT-loop
-split-μ-loop n live rows₀ names u v a₀ b₀ t₀ rows a b t = open-pairs (node n live rows names)
+  -- the bound does not cut it off
+  abbrev Below : Type 0
+  Below = enter-lts.Else2 (enter-claims t) (enter-at t) enter.Post
+
+  abbrev going : Below → Going
+  going c = c .before .before .before
+
+  enter-uncut : (c : Below) → let e = going c in rule (begin e .args .n) .cut (view (here (begin e))) (e .before .counted .result .k) ≡ false
+  enter-uncut c = let a = begin (going c) in sym ((c .before) .reaches .ensures (here a) (a .pre .1 .ready .held)) ∙ c .if2 .left
+
+  enter-split-requires : enter-lts.Need-split-requires (enter-claims t) (enter-at t) enter.Post
+  enter-split-requires c κs =
+      let e = c .before .before .before .before .before .before .before .before .before .before .before .before in
+      let a = begin e in
+      let p : living (here a) * 2 + 1 ≡ t = a .pre .0 in (
+        omega arith,
+        record {
+          enters = record { ready = enter-ready e; laid = a .pre .1 .laid };
+          chosen = sym ((c .before .before .before .before .before .before .before) .choose-among .ensures (here a) (a .pre .1 .ready .held)) ∙ ap choiceOf ((c .before .before .before .before .before) .c .given .1);
+        },
+      )
+
+  -- what split has left is restored
+  enter-restore-requires : enter-lts.Need-restore-requires (enter-claims t) (enter-at t) enter.Post
+  enter-restore-requires c κs = let l = (c .before .before .before .before .before .before .before .before .before .before) .split .ensures .left in (l .stays .form, l .few)
+
+  enter-same-length-2 : enter-lts.Need-same-length-2 (enter-claims t) (enter-at t) enter.Post
+  enter-same-length-2 c = refl
+
+  enter-same-length-3 : enter-lts.Need-same-length-3 (enter-claims t) (enter-at t) enter.Post
+  enter-same-length-3 c = refl
+
+  enter-same-length-4 : enter-lts.Need-same-length-4 (enter-claims t) (enter-at t) enter.Post
+  enter-same-length-4 c = (c .before .before) .improved .ensures .long
+
+  enter-returns-3 : enter-lts.Need-returns-3 (enter-claims t) (enter-at t) enter.Post
+  enter-returns-3 c =
+      let b = c .before .before .before .before .before .before .before .before .before in
+      let e = going b in
+      let a = begin e in
+      let f = (c .before .before) .improved .ensures in
+      record {
+        comes = comes-leaf (rule (a .args .n)) (64 * a .args .words) (here a) (a .args .best .now) (a .args .s) (a .pre .1 .ready) (e .before .counted .result) (enter-on e)
+            (enter-uncut b) _ _ (sym ((c .before .before .before .before .before .before .before) .choose-among .ensures (here a) (a .pre .1 .ready .held)) ∙ ap choiceOf ((c .before .before .before .before .before) .enum-told .given .1))
+            (f .is (64 * a .args .words) _ (form-few (a .pre .1 .laid .form)) (enter-ready e));
+        kept = kept-best (a .args .words) (lent-to a) (a .args .at) _ (a .pre .1 .laid .form) (f .long);
+      }
+
+  enter-same-length-5 : enter-lts.Need-same-length-5 (enter-claims t) (enter-at t) enter.Post
+  enter-same-length-5 c = form-same-long ((c .before .before .before .before .before .before .before .before .before .before .before .before .before .before .before .before .before .before .before .before .before .before .before .before .before .before .before .before .before .before .before .before .before) .pre .1 .laid .form) ((c .before .before .before) .restore .ensures .0)
+
+  enter-same-length-6 : enter-lts.Need-same-length-6 (enter-claims t) (enter-at t) enter.Post
+  enter-same-length-6 c = ap length ((c .before .before .before .before .before .before .before .before .before .before .before .before .before .before) .split .ensures .left .stays .names)
+
+  enter-same-length-7 : enter-lts.Need-same-length-7 (enter-claims t) (enter-at t) enter.Post
+  enter-same-length-7 c = (c .before .before .before .before .before .before .before .before .before .before .before .before .before .before) .split .ensures .left .stays .best-long
+
+  enter-same-length-8 : enter-lts.Need-same-length-8 (enter-claims t) (enter-at t) enter.Post
+  enter-same-length-8 c = (c .before .before .before .before .before .before .before .before .before .before .before .before .before .before) .split .ensures .left .stays .trail-long
+
+  enter-returns-4 : enter-lts.Need-returns-4 (enter-claims t) (enter-at t) enter.Post
+  enter-returns-4 c =
+      let b = c .before .before .before .before .before .before .before .before .before .before .before .before .before .before .before .before .before .before .before .before .before .before .before .before in
+      let e = going b in
+      let a = begin e in
+      let k = (c .before .before .before .before .before .before .before .before .before .before .before .before .before .before .before .before .before .before .before .before) .c .given in
+      let s = (c .before .before .before .before .before .before .before .before .before .before .before .before .before .before) .split in
+      let r = (c .before .before .before) .restore .ensures in
+      record {
+        comes = comes-fork (rule (a .args .n)) (64 * a .args .words) (here a) (a .args .best .now) (a .args .s) (a .pre .1 .ready) (e .before .counted .result) (enter-on e)
+            (enter-uncut b) _ _ (k .0 .0) (k .0 .1 .0) (sym ((c .before .before .before .before .before .before .before .before .before .before .before .before .before .before .before .before .before .before .before .before .before .before) .choose-among .ensures (here a) (a .pre .1 .ready .held)) ∙ ap choiceOf (k .1)) (s .ensures .comes);
+        kept = kept-restored (a .args .words) (lent-to a) (a .args .at) _ _ (s .ensures .left) _ (r .0) (r .1);
+      }
 
 -- ---- split
 
--- the node where a turn begins
-abbrev turning : (t : ℕ) → split-lts.At-loop (split-claims t) (split-at t) split.Post split-Inv-loop split-μ-loop → Node
-turning t l = node (l .before .args .n) (l .before .args .live) (l .loop .rows) (l .before .args .names .now)
+-- what holds where a turn begins: what is left of the walk is what was left at first, and what is changed is on the trail
+record Turn (words n : ℕ) (live : Set) (l₀ : Lent) (at a₀ b₀ : ℕ) (t₀ : State) (l : Lent) (a b : ℕ) (t : State) (more : ℕ) : Type 0 where
+  enters : Enters words n live l (at + more) t
+  chosen : pair n (view (nodeIn words n live l)) ≡ some (a, b)
+  lives : living (nodeIn words n live l) ≡ living (nodeIn words n live l₀)
+  rest : (best : List ℕ) (r : State) → Onwards words n live l a b t best r → Onwards words n live l₀ a₀ b₀ t₀ best r
+  left : Left words l₀ at more l
 
--- it may be split
-split-pair : (t : ℕ) (l : split-lts.At-loop (split-claims t) (split-at t) split.Post split-Inv-loop split-μ-loop) → AtPair (turning t l) (l .loop .a) (l .loop .b)
-split-pair t l = at-pair rule (turning t l) (l .loop .a) (l .loop .b) (l .loop .t) (l .loop .inv .ready)
+abbrev split-Inv-loop : split-lts.InvT-loop
+split-Inv-loop words n live rows₀ names₀ best₀ trail₀ at u v a₀ b₀ t₀ more₀ rows names best trail a b t more =
+    Turn words n live (lending rows₀ names₀ best₀ trail₀) at a₀ b₀ t₀ (lending rows names best trail) a b t more
 
--- the merged node
-abbrev fewer : (t : ℕ) → split-lts.After-without (split-claims t) (split-at t) split.Post split-Inv-loop split-μ-loop → Node
-fewer t w = node (w .before .before .before .before .before .before .before .before .args .n) (w .without .result) (w .before .before .before .merge-rows .last .1 .0) (w .before .rename .last .0)
+abbrev split-μ-loop : split-lts.MeasureT-loop
+split-μ-loop words n live rows₀ names₀ best₀ trail₀ at u v a₀ b₀ t₀ more₀ rows names best trail a b t more =
+    open-pairs (nodeIn words n live (lending rows names best trail))
 
-split-fewer : (t : ℕ) (w : split-lts.After-without (split-claims t) (split-at t) split.Post split-Inv-loop split-μ-loop)
-    → let l = w .before .before .before .before .before .before .before in Becomes (turning t l) (fewer t w) (merge (l .loop .a) (l .loop .b) (view (turning t l)))
-split-fewer t w =
-    let l = w .before .before .before .before .before .before .before in
-    w .before .before .before .merge-rows .ensures (turning t l) (w .without .result) (w .before .rename .last .0) (split-pair t l) (w .without .ensures) (w .before .rename .ensures)
+module _ (t : ℕ) where
+  -- the places of a turn, each after the one before it
+  abbrev Looping : Type 0
+  Looping = split-lts.At-loop (split-claims t) (split-at t) split.Post split-Inv-loop split-μ-loop
 
--- the separated node
-abbrev parted : (t : ℕ) → split-lts.After-separate-rows (split-claims t) (split-at t) split.Post split-Inv-loop split-μ-loop → Node
-parted t c = let a = c .before .before .before .before .before .before .before .before .before .before .before .before .before .before in node (a .args .n) (a .args .live) (c .separate-rows .last .0) (a .args .names .now)
+  abbrev Merged : Type 0
+  Merged = split-lts.After-merge-at (split-claims t) (split-at t) split.Post split-Inv-loop split-μ-loop
 
-split-parted : (t : ℕ) (c : split-lts.After-separate-rows (split-claims t) (split-at t) split.Post split-Inv-loop split-μ-loop)
-    → let l = c .before .before .before .before .before .before .before .before .before .before .before .before .before in Becomes (turning t l) (parted t c) (separate (l .loop .a) (l .loop .b) (view (turning t l)))
-split-parted t c = let l = c .before .before .before .before .before .before .before .before .before .before .before .before .before in c .separate-rows .ensures (turning t l) (split-pair t l)
+  abbrev Fewer : Type 0
+  Fewer = split-lts.After-without (split-claims t) (split-at t) split.Post split-Inv-loop split-μ-loop
 
--- the walk below the merged graph has come back, and the separated graph may be entered
-split-ready : (t : ℕ) (c : split-lts.After-separate-rows (split-claims t) (split-at t) split.Post split-Inv-loop split-μ-loop) → Ready (parted t c) (c .before .before .before .enter .result)
-split-ready t c =
-    let e = c .before .before .before in
-    let w = e .before .before .before in
-    let l = w .before .before .before .before .before .before .before in
-    separated-ready rule (turning t l) (l .loop .a) (l .loop .b) (l .loop .t) (l .loop .inv .ready) (fewer t w) (split-fewer t w) (e .enter .result) (e .enter .ensures)
-    (c .before .before .if1 .left) (parted t c) (split-parted t c)
+  abbrev Entering : Type 0
+  Entering = split-lts.After-enter (split-claims t) (split-at t) split.Post split-Inv-loop split-μ-loop
 
--- what the walk below the separated graph comes to is what the whole comes to
-split-rest : (t : ℕ) (c : split-lts.After-separate-rows (split-claims t) (split-at t) split.Post split-Inv-loop split-μ-loop) (r : State)
-    → Entered (parted t c) (c .before .before .before .enter .result) r
-    → let a = c .before .before .before .before .before .before .before .before .before .before .before .before .before .before in Onward (node (a .args .n) (a .args .live) (a .args .rows .now) (a .args .names .now)) (a .args .u) (a .args .v) (a .args .s) r
-split-rest t c r f =
-    let e = c .before .before .before in
-    let w = e .before .before .before in
-    let l = w .before .before .before .before .before .before .before in
-    l .loop .inv .rest r
-    (onward-on rule (turning t l) (l .loop .a) (l .loop .b) (l .loop .t) (l .loop .inv .ready) (fewer t w) (split-fewer t w) (e .enter .result) (e .enter .ensures)
-    (c .before .before .if1 .left) (parted t c) (split-parted t c) r f)
+  abbrev Unmerged : Type 0
+  Unmerged = split-lts.After-unmerge-at (split-claims t) (split-at t) split.Post split-Inv-loop split-μ-loop
 
--- the separated graph is counted
-split-on : (t : ℕ) (c : split-lts.Else2 (split-claims t) (split-at t) split.Post split-Inv-loop split-μ-loop)
-    → Counted (parted t (c .before .before) .n) (c .before .before .before .before .before .enter .result) (c .before .counted .result)
-split-on t c =
-    let d = c .before .before in
-    let r = split-ready t d in
-    counted-on (d .before .before .before .enter .result) (c .before .counted .result) (r .going) (c .before .counted .ensures) (parted t d .n) (r .fair) (c .if2 .left)
+  abbrev Separated : Type 0
+  Separated = split-lts.After-separate-at (split-claims t) (split-at t) split.Post split-Inv-loop split-μ-loop
 
-split-ready-on : (t : ℕ) (c : split-lts.Else2 (split-claims t) (split-at t) split.Post split-Inv-loop split-μ-loop) → Ready (parted t (c .before .before)) (c .before .counted .result)
-split-ready-on t c = let n = split-on t c in record { held = split-parted t (c .before .before) .held; fair = n .fair; going = n .going }
+  abbrev Counted-on : Type 0
+  Counted-on = split-lts.Else2 (split-claims t) (split-at t) split.Post split-Inv-loop split-μ-loop
 
-split-loop-holds : (t : ℕ) → split-lts.Need-loop-holds (split-claims t) (split-at t) split.Post split-Inv-loop split-μ-loop
-split-loop-holds t c = record { ready = c .pre .1; lives = refl; rest = λ r f. f }
+  abbrev Uncut : Type 0
+  Uncut = split-lts.Else3 (split-claims t) (split-at t) split.Post split-Inv-loop split-μ-loop
 
-split-merge-rows-requires : (t : ℕ) → split-lts.Need-merge-rows-requires (split-claims t) (split-at t) split.Post split-Inv-loop split-μ-loop
-split-merge-rows-requires t c κs = let l = c .before .before .before in let k = pair-bounds _ _ _ (split-pair t l) in (split-pair t l .held .rows-long, (k .0, k .1))
+  abbrev start-of : Looping → split-lts.Start (split-claims t) (split-at t) split.Post split-Inv-loop split-μ-loop
+  start-of c = c .before .before .before .before .before
 
-split-cast-rename : (t : ℕ) → split-lts.Need-cast-rename (split-claims t) (split-at t) split.Post split-Inv-loop split-μ-loop
-split-cast-rename t c = let k = pair-bounds _ _ _ (split-pair t (c .before .before .before .before .before)) in record { fits = omega (arith, k .0) }
+  abbrev turn-of : Merged → Looping
+  turn-of c = c .before .before .before
 
-split-cast-rename-2 : (t : ℕ) → split-lts.Need-cast-rename-2 (split-claims t) (split-at t) split.Post split-Inv-loop split-μ-loop
-split-cast-rename-2 t c = let k = pair-bounds _ _ _ (split-pair t (c .before .before .before .before .before)) in record { fits = omega (arith, k .1) }
+  abbrev merged-of : Fewer → Merged
+  merged-of c = c .before .before .before .before .before
 
-split-rename-requires : (t : ℕ) → split-lts.Need-rename-requires (split-claims t) (split-at t) split.Post split-Inv-loop split-μ-loop
-split-rename-requires t c κs = let l = c .before .before .before .before .before in (split-pair t l .held .names-long, split-pair t l .chosen .less)
+  abbrev fewer-of : Entering → Fewer
+  fewer-of c = c .before .before .before .before .before
 
-split-without-requires : (t : ℕ) → split-lts.Need-without-requires (split-claims t) (split-at t) split.Post split-Inv-loop split-μ-loop
-split-without-requires t c κs = pair-bounds _ _ _ (split-pair t (c .before .before .before .before .before .before)) .1
+  abbrev entering-of : Unmerged → Entering
+  entering-of c = c .before .before .before .before .before .before .before .before .before .before .before
 
-split-enter-requires : (t : ℕ) → split-lts.Need-enter-requires (split-claims t) (split-at t) split.Post split-Inv-loop split-μ-loop
-split-enter-requires t c κs =
-    let w = c .before .before in
-    let l = w .before .before .before .before .before .before .before in
-    let a = l .before in
-    let p : living (node (a .args .n) (a .args .live) (a .args .rows .now) (a .args .names .now)) * 2 ≡ t = a .pre .0 in (
-      omega (arith, merged-falls rule (turning t l) (l .loop .a) (l .loop .b) (l .loop .t) (l .loop .inv .ready) (fewer t w) (split-fewer t w), l .loop .inv .lives),
-      merged-ready rule (turning t l) (l .loop .a) (l .loop .b) (l .loop .t) (l .loop .inv .ready) (fewer t w) (split-fewer t w),
-    )
+  abbrev unmerged-of : Separated → Unmerged
+  unmerged-of c = c .before .before .before .before .before .before .before .before
 
-split-returns : (t : ℕ) → split-lts.Need-returns (split-claims t) (split-at t) split.Post split-Inv-loop split-μ-loop
-split-returns t c =
-    let e = c .before in
-    let w = e .before .before .before in
-    let l = w .before .before .before .before .before .before .before in
-    l .loop .inv .rest (e .enter .result)
-    (onward-out rule (turning t l) (l .loop .a) (l .loop .b) (l .loop .t) (l .loop .inv .ready) (fewer t w) (split-fewer t w) (e .enter .result) (e .enter .ensures) (c .if1 .taken))
+  abbrev separated-of : Counted-on → Separated
+  separated-of c = c .before .before .before .before .before .before
 
-split-separate-rows-requires : (t : ℕ) → split-lts.Need-separate-rows-requires (split-claims t) (split-at t) split.Post split-Inv-loop split-μ-loop
-split-separate-rows-requires t c κs = let k = pair-bounds _ _ _ (split-pair t (c .before .before .before .before .before .before .before .before .before .before .before .before)) in (k .0, k .1)
+  abbrev counted-of : Uncut → Counted-on
+  counted-of c = c .before .before .before
 
-split-counted-requires : (t : ℕ) → split-lts.Need-counted-requires (split-claims t) (split-at t) split.Post split-Inv-loop split-μ-loop
-split-counted-requires t c κs = search needs
+  abbrev turn-at : Unmerged → Looping
+  turn-at c = turn-of (merged-of (fewer-of (entering-of c)))
 
-split-returns-2 : (t : ℕ) → split-lts.Need-returns-2 (split-claims t) (split-at t) split.Post split-Inv-loop split-μ-loop
-split-returns-2 t c =
-    let d = c .before .before in
-    let q = parted t d in
-    split-rest t d (c .before .counted .result)
-    (comes-out (rule (q .n)) q (d .before .before .before .enter .result) (split-ready t d) (c .before .counted .result) (c .before .counted .ensures) (c .if2 .taken))
+  -- what is lent at first, where a turn begins, where its merging is undone, and where its pair is separated
+  abbrev at-first : Looping → Lent
+  at-first l = let a = start-of l in lending (a .args .rows .now) (a .args .names .now) (a .args .best .now) (a .args .trail .now)
 
-split-reaches-requires : (t : ℕ) → split-lts.Need-reaches-requires (split-claims t) (split-at t) split.Post split-Inv-loop split-μ-loop
-split-reaches-requires t c κs = let d = c .before .before .before in (parted t d, split-parted t d .held)
+  abbrev in-turn : Looping → Lent
+  in-turn l = lending (l .loop .rows) (l .loop .names) (l .loop .best) (l .loop .trail)
 
-split-returns-3 : (t : ℕ) → split-lts.Need-returns-3 (split-claims t) (split-at t) split.Post split-Inv-loop split-μ-loop
-split-returns-3 t c =
-    let e = c .before .before .before in
-    let d = e .before .before in
-    let q = parted t d in
-    split-rest t d (e .before .counted .result)
-    (comes-cut (rule (q .n)) q (d .before .before .before .enter .result) (split-ready t d) (e .before .counted .result) (split-on t e) (sym (c .before .reaches .ensures q (split-parted t d .held)) ∙ c .if3 .taken))
+  abbrev back-in : Unmerged → Lent
+  back-in c =
+      let x = entering-of c in
+      lending (c .unmerge-at .last .1 .0) (c .unmerge-at .last .1 .1 .0) (x .enter .last .1 .1 .1 .1 .1 .0) (x .enter .last .1 .1 .1 .1 .1 .1 .0)
 
-split-choose-among-requires : (t : ℕ) → split-lts.Need-choose-among-requires (split-claims t) (split-at t) split.Post split-Inv-loop split-μ-loop
-split-choose-among-requires t c κs = let d = c .before .before .before .before .before .before in (parted t d, split-parted t d .held)
+  abbrev apart-in : Separated → Lent
+  apart-in c = let y = back-in (unmerged-of c) in lending (c .separate-at .last .1 .0) (y .names) (y .best) (c .separate-at .last .1 .1 .0)
 
-split-enum-told : (t : ℕ) → split-lts.Need-enum-told (split-claims t) (split-at t) split.Post split-Inv-loop split-μ-loop
-split-enum-told t c = search needs
+  -- the walk below the merged graph has come back, and it is merged no more
+  split-back : (c : Unmerged)
+      → let l = turn-at c in
+      let a = start-of l in
+      Back rule (a .args .words) (a .args .n) (a .args .live) (in-turn l) (a .args .at + l .loop .more) (l .loop .a) (l .loop .b) (l .loop .t) (back-in c) (entering-of c .enter .result)
+  split-back c =
+      let x = entering-of c in
+      let w = fewer-of x in
+      let m = merged-of w in
+      let i = turn-of m .loop .inv in
+      round-back (i .enters) (i .chosen) (m .merge-at .ensures) (w .without .result) (w .without .ensures) rule (x .enter .ensures) (c .unmerge-at .ensures)
 
-split-improved-requires : (t : ℕ) → split-lts.Need-improved-requires (split-claims t) (split-at t) split.Post split-Inv-loop split-μ-loop
-split-improved-requires t c κs = split-ready-on t (c .before .before .before .before .before .before .before .before)
+  split-back-left : (c : Unmerged) → let l = turn-at c in let a = start-of l in Left (a .args .words) (at-first l) (a .args .at) (l .loop .more) (back-in c)
+  split-back-left c =
+      let l = turn-at c in
+      let a = start-of l in
+      left-kept (a .args .words) (at-first l) (a .args .at) (l .loop .more) (in-turn l) (l .loop .inv .left) (back-in c) (split-back c .kept)
 
-split-returns-4 : (t : ℕ) → split-lts.Need-returns-4 (split-claims t) (split-at t) split.Post split-Inv-loop split-μ-loop
-split-returns-4 t c =
-    let m = c .before .before .before .before in
-    let e = m .before .before .before .before .before in
-    let d = e .before .before in
-    let q = parted t d in
-    split-rest t d (c .improved .result)
-    (comes-leaf (rule (q .n)) q (d .before .before .before .enter .result) (split-ready t d) (e .before .counted .result) (split-on t e)
-    (sym (m .before .before .before .reaches .ensures q (split-parted t d .held)) ∙ m .before .before .if3 .left)
-    (sym (m .choose-among .ensures q (split-parted t d .held)) ∙ ap choiceOf (c .before .before .enum-told .given .1)) (c .improved .result) (c .improved .ensures))
+  -- the pair is separated
+  split-apart : (c : Separated)
+      → let l = turn-at (unmerged-of c) in
+      let a = start-of l in
+      Apart rule (a .args .words) (a .args .n) (a .args .live) (in-turn l) (a .args .at + l .loop .more) (l .loop .a) (l .loop .b) (l .loop .t) (apart-in c) (entering-of (unmerged-of c) .enter .result)
+  split-apart c = split-back (unmerged-of c) .apart ((c .before .before .before) .if1 .left) _ _ (c .separate-at .ensures)
 
-split-enum-known-c : (t : ℕ) → split-lts.Need-enum-known-c (split-claims t) (split-at t) split.Post split-Inv-loop split-μ-loop
-split-enum-known-c t c = search needs
+  split-enters : (c : Separated)
+      → let l = turn-at (unmerged-of c) in
+      let a = start-of l in
+      Enters (a .args .words) (a .args .n) (a .args .live) (apart-in c) (a .args .at + (l .loop .more + 1)) (entering-of (unmerged-of c) .enter .result)
+  split-enters c = split-apart c .enters _ (omega arith)
 
-split-loop-less : (t : ℕ) → split-lts.Need-loop-less (split-claims t) (split-at t) split.Post split-Inv-loop split-μ-loop
-split-loop-less t c =
-    let d = c .before .before .before .before .before .before .before .before .before .before in
-    let l = d .before .before .before .before .before .before .before .before .before .before .before .before .before in
-    separated-falls rule (turning t l) (l .loop .a) (l .loop .b) (l .loop .t) (l .loop .inv .ready) (parted t d) (split-parted t d)
+  split-left : (c : Separated)
+      → let l = turn-at (unmerged-of c) in
+      let a = start-of l in
+      Left (a .args .words) (at-first l) (a .args .at) (l .loop .more + 1) (apart-in c)
+  split-left c = let l = turn-at (unmerged-of c) in split-apart c .left (at-first l) (start-of l .args .at) (l .loop .more) refl (l .loop .inv .left)
 
-split-loop-again : (t : ℕ) → split-lts.Need-loop-again (split-claims t) (split-at t) split.Post split-Inv-loop split-μ-loop
-split-loop-again t c =
-    let m = c .before .before .before in
-    let e = m .before .before .before .before .before in
-    let d = e .before .before in
-    let q = parted t d in
-    let l = d .before .before .before .before .before .before .before .before .before .before .before .before .before in
-    let k = c .before .c .given in
-    let p : pair (q .n) (view q) ≡ some (k .0 .0, k .0 .1 .0) = sym (m .choose-among .ensures q (split-parted t d .held)) ∙ ap choiceOf (k .1) in
-    record {
-      ready = record { ready = split-ready-on t e; at = p };
-      lives = separated-lives rule (turning t l) (l .loop .a) (l .loop .b) (l .loop .t) (l .loop .inv .ready) q (split-parted t d) ∙ l .loop .inv .lives;
-      rest = λ r f. split-rest t d r
-          (comes-fork (rule (q .n)) q (d .before .before .before .enter .result) (split-ready t d) (e .before .counted .result) (split-on t e)
-          (sym (m .before .before .before .reaches .ensures q (split-parted t d .held)) ∙ m .before .before .if3 .left) (k .0 .0) (k .0 .1 .0) p r f);
-    }
+  abbrev separated-node : Separated → Node
+  separated-node c = let a = start-of (turn-at (unmerged-of c)) in nodeIn (a .args .words) (a .args .n) (a .args .live) (apart-in c)
+
+  -- it is counted
+  split-on : (c : Counted-on)
+      → let d = separated-of c in
+      Counted (separated-node d .n) (apart-in d .best) (entering-of (unmerged-of d) .enter .result) (c .before .counted .result)
+  split-on c =
+      let d = separated-of c in
+      let r = split-enters d .ready in
+      counted-on (entering-of (unmerged-of d) .enter .result) (c .before .counted .result) (r .going) (c .before .counted .ensures) (separated-node d .n) (apart-in d .best) (r .fair) (c .if2 .left)
+
+  split-ready : (c : Counted-on)
+      → let d = separated-of c in
+      Ready (64 * start-of (turn-at (unmerged-of d)) .args .words) (separated-node d) (apart-in d .best) (c .before .counted .result)
+  split-ready c =
+      let d = separated-of c in
+      let a = start-of (turn-at (unmerged-of d)) in
+      counted-ready (rule (a .args .n)) (64 * a .args .words) (separated-node d) (apart-in d .best) (entering-of (unmerged-of d) .enter .result) (split-enters d .ready)
+      (c .before .counted .result) (split-on c)
+
+  -- the bound does not cut it off
+  split-uncut : (c : Uncut)
+      → let e = counted-of c in
+      let d = separated-of e in
+      rule (separated-node d .n) .cut (view (separated-node d)) (e .before .counted .result .k) ≡ false
+  split-uncut c =
+      let d = separated-of (counted-of c) in
+      sym ((c .before) .reaches .ensures (separated-node d) (split-enters d .ready .held)) ∙ c .if3 .left
+
+  -- the trail is short enough for its places to be numbers of the machine
+  split-fits : (c : Looping) → start-of c .args .at + c .loop .more < 2 ^ 63
+  split-fits c = let l = c .loop .inv .left in omega (arith, l .few, l .stays .trail-long, start-of c .good .1 .1 .1 .1 .1 .1 .0)
+
+  split-loop-holds : split-lts.Need-loop-holds (split-claims t) (split-at t) split.Post split-Inv-loop split-μ-loop
+  split-loop-holds c =
+      let a = c .before .before .before .before in
+      let e = a .pre .1 .enters in
+      record {
+        enters = record { ready = e .ready; laid = record { form = e .laid .form; forest = e .laid .forest; named = e .laid .named; bytes = e .laid .bytes; room = omega (arith, e .laid .room) } };
+        chosen = a .pre .1 .chosen;
+        lives = refl;
+        rest = λ best r f. f;
+        left = left-none _ _ _ (e .laid .form) (omega (arith, e .laid .room));
+      }
+
+  split-merge-at-requires : split-lts.Need-merge-at-requires (split-claims t) (split-at t) split.Post split-Inv-loop split-μ-loop
+  split-merge-at-requires c κs = let i = (c .before .before) .loop .inv in (i .enters .laid .form, round-merges (i .enters) (i .chosen))
+
+  split-without-requires : split-lts.Need-without-requires (split-claims t) (split-at t) split.Post split-Inv-loop split-μ-loop
+  split-without-requires c κs = let i = (c .before .before .before .before .before .before .before) .loop .inv in omega (arith, round-pair (i .enters) (i .chosen) .1, form-few (i .enters .laid .form))
+
+  split-add-enter : split-lts.Need-add-enter (split-claims t) (split-at t) split.Post split-Inv-loop split-μ-loop
+  split-add-enter c = omega (arith, split-fits (c .before .before .before .before .before .before .before .before .before .before .before .before))
+
+  split-enter-requires : split-lts.Need-enter-requires (split-claims t) (split-at t) split.Post split-Inv-loop split-μ-loop
+  split-enter-requires c κs =
+      let w = c .before .before .before .before in
+      let m = merged-of w in
+      let l = turn-of m in
+      let a = start-of l in
+      let i = l .loop .inv in
+      let p : living (nodeIn (a .args .words) (a .args .n) (a .args .live) (at-first l)) * 2 ≡ t = a .pre .0 in (
+        omega (arith, round-falls (i .enters) (i .chosen) (m .merge-at .ensures) (w .without .result) (w .without .ensures), i .lives),
+        round-enters (i .enters) (i .chosen) (m .merge-at .ensures) (w .without .result) (w .without .ensures),
+      )
+
+  split-unmerge-at-requires : split-lts.Need-unmerge-at-requires (split-claims t) (split-at t) split.Post split-Inv-loop split-μ-loop
+  split-unmerge-at-requires c κs =
+      let x = c .before .before .before .before .before .before .before .before .before .before in
+      let w = fewer-of x in
+      let m = merged-of w in
+      let i = turn-of m .loop .inv in (
+        x .enter .ensures .kept .stays .form,
+        (
+          round-unmerges (i .enters) (i .chosen) (m .merge-at .ensures) (w .without .result) (w .without .ensures) rule (x .enter .ensures),
+          (
+            m .merge-at .ensures .rows-are .old-fits,
+            m .merge-at .ensures .rows-are .near-fits,
+          ),
+        ),
+      )
+
+  split-same-length : split-lts.Need-same-length (split-claims t) (split-at t) split.Post split-Inv-loop split-μ-loop
+  split-same-length c = form-same-long ((c .before .before .before .before .before .before .before .before .before .before .before .before .before .before .before .before .before .before .before .before .before .before .before .before .before .before .before .before .before .before .before .before .before .before) .pre .1 .enters .laid .form) ((c .before .before .before .before .before) .unmerge-at .ensures .form)
+
+  split-same-length-2 : split-lts.Need-same-length-2 (split-claims t) (split-at t) split.Post split-Inv-loop split-μ-loop
+  split-same-length-2 c = ap length (split-back-left (c .before .before .before .before .before) .stays .names)
+
+  split-same-length-3 : split-lts.Need-same-length-3 (split-claims t) (split-at t) split.Post split-Inv-loop split-μ-loop
+  split-same-length-3 c = split-back-left (c .before .before .before .before .before) .stays .best-long
+
+  split-same-length-4 : split-lts.Need-same-length-4 (split-claims t) (split-at t) split.Post split-Inv-loop split-μ-loop
+  split-same-length-4 c = split-back-left (c .before .before .before .before .before) .stays .trail-long
+
+  split-returns : split-lts.Need-returns (split-claims t) (split-at t) split.Post split-Inv-loop split-μ-loop
+  split-returns c =
+      let u = c .before .before .before .before .before in
+      record { comes = turn-at u .loop .inv .rest _ _ (split-back u .out (c .if1 .taken)); left = split-back-left u }
+
+  split-add-separate-at : split-lts.Need-add-separate-at (split-claims t) (split-at t) split.Post split-Inv-loop split-μ-loop
+  split-add-separate-at c = omega (arith, split-fits (c .before .before .before .before .before .before .before .before .before .before .before .before .before .before .before .before .before .before .before .before .before .before .before .before .before .before .before .before .before .before .before))
+
+  split-separate-at-requires : split-lts.Need-separate-at-requires (split-claims t) (split-at t) split.Post split-Inv-loop split-μ-loop
+  split-separate-at-requires c κs = let u = c .before .before .before .before .before .before .before in (u .unmerge-at .ensures .form, split-back u .room)
+
+  split-add-more : split-lts.Need-add-more (split-claims t) (split-at t) split.Post split-Inv-loop split-μ-loop
+  split-add-more c = let l = split-left (c .before .before .before .before) in let a = c .before .before .before .before .before .before .before .before .before .before .before .before .before .before .before .before .before .before .before .before .before .before .before .before .before .before .before .before .before .before .before .before .before .before .before .before .before .before .before .before .before in omega (arith, l .few, l .stays .trail-long, a .good .1 .1 .1 .1 .1 .1 .0)
+
+  split-counted-requires : split-lts.Need-counted-requires (split-claims t) (split-at t) split.Post split-Inv-loop split-μ-loop
+  split-counted-requires c κs = search needs
+
+  split-same-length-5 : split-lts.Need-same-length-5 (split-claims t) (split-at t) split.Post split-Inv-loop split-μ-loop
+  split-same-length-5 c = form-same-long ((c .before .before .before .before .before .before .before .before .before .before .before .before .before .before .before .before .before .before .before .before .before .before .before .before .before .before .before .before .before .before .before .before .before .before .before .before .before .before .before .before .before .before .before) .pre .1 .enters .laid .form) (split-left (c .before .before .before .before .before .before) .stays .form)
+
+  split-same-length-6 : split-lts.Need-same-length-6 (split-claims t) (split-at t) split.Post split-Inv-loop split-μ-loop
+  split-same-length-6 c = ap length (split-left (c .before .before .before .before .before .before) .stays .names)
+
+  split-same-length-7 : split-lts.Need-same-length-7 (split-claims t) (split-at t) split.Post split-Inv-loop split-μ-loop
+  split-same-length-7 c = split-left (c .before .before .before .before .before .before) .stays .best-long
+
+  split-same-length-8 : split-lts.Need-same-length-8 (split-claims t) (split-at t) split.Post split-Inv-loop split-μ-loop
+  split-same-length-8 c = split-left (c .before .before .before .before .before .before) .stays .trail-long
+
+  split-returns-2 : split-lts.Need-returns-2 (split-claims t) (split-at t) split.Post split-Inv-loop split-μ-loop
+  split-returns-2 c =
+      let d = c .before .before .before .before .before .before in
+      let l = turn-at (unmerged-of d) in
+      let a = start-of l in
+      let k = (c .before) .counted in
+      record {
+        comes = l .loop .inv .rest _ _ (split-apart d .rest _ _
+            (comes-out (rule (a .args .n)) (64 * a .args .words) (separated-node d) (apart-in d .best) (entering-of (unmerged-of d) .enter .result) (split-enters d .ready) (k .result) (k .ensures) (c .if2 .taken)));
+        left = split-left d;
+      }
+
+  split-reaches-requires : split-lts.Need-reaches-requires (split-claims t) (split-at t) split.Post split-Inv-loop split-μ-loop
+  split-reaches-requires c κs = let d = c .before .before .before .before .before .before .before in (split-enters d .laid .form, (separated-node d, split-enters d .ready .held))
+
+  split-same-length-9 : split-lts.Need-same-length-9 (split-claims t) (split-at t) split.Post split-Inv-loop split-μ-loop
+  split-same-length-9 c = form-same-long ((c .before .before .before .before .before .before .before .before .before .before .before .before .before .before .before .before .before .before .before .before .before .before .before .before .before .before .before .before .before .before .before .before .before .before .before .before .before .before .before .before .before .before .before .before .before .before) .pre .1 .enters .laid .form) (split-left (c .before .before .before .before .before .before .before .before .before) .stays .form)
+
+  split-same-length-10 : split-lts.Need-same-length-10 (split-claims t) (split-at t) split.Post split-Inv-loop split-μ-loop
+  split-same-length-10 c = ap length (split-left (c .before .before .before .before .before .before .before .before .before) .stays .names)
+
+  split-same-length-11 : split-lts.Need-same-length-11 (split-claims t) (split-at t) split.Post split-Inv-loop split-μ-loop
+  split-same-length-11 c = split-left (c .before .before .before .before .before .before .before .before .before) .stays .best-long
+
+  split-same-length-12 : split-lts.Need-same-length-12 (split-claims t) (split-at t) split.Post split-Inv-loop split-μ-loop
+  split-same-length-12 c = split-left (c .before .before .before .before .before .before .before .before .before) .stays .trail-long
+
+  split-returns-3 : split-lts.Need-returns-3 (split-claims t) (split-at t) split.Post split-Inv-loop split-μ-loop
+  split-returns-3 c =
+      let e = c .before .before .before in
+      let d = separated-of e in
+      let l = turn-at (unmerged-of d) in
+      let a = start-of l in
+      record {
+        comes = l .loop .inv .rest _ _ (split-apart d .rest _ _
+            (comes-cut (rule (a .args .n)) (64 * a .args .words) (separated-node d) (apart-in d .best) (entering-of (unmerged-of d) .enter .result) (split-enters d .ready) (e .before .counted .result) (split-on e)
+            (sym ((c .before) .reaches .ensures (separated-node d) (split-enters d .ready .held)) ∙ c .if3 .taken)));
+        left = split-left d;
+      }
+
+  split-choose-among-requires : split-lts.Need-choose-among-requires (split-claims t) (split-at t) split.Post split-Inv-loop split-μ-loop
+  split-choose-among-requires c κs = let d = c .before .before .before .before .before .before .before .before .before .before in (split-enters d .laid .form, (separated-node d, split-enters d .ready .held))
+
+  split-enum-told : split-lts.Need-enum-told (split-claims t) (split-at t) split.Post split-Inv-loop split-μ-loop
+  split-enum-told c = search needs
+
+  split-improved-requires : split-lts.Need-improved-requires (split-claims t) (split-at t) split.Post split-Inv-loop split-μ-loop
+  split-improved-requires c κs = let e = split-enters (c .before .before .before .before .before .before .before .before .before .before .before .before .before .before .before) in (e .laid .forest, laid-finds _ _ _ _ _ (e .laid) (e .ready .held))
+
+  split-same-length-13 : split-lts.Need-same-length-13 (split-claims t) (split-at t) split.Post split-Inv-loop split-μ-loop
+  split-same-length-13 c = form-same-long ((c .before .before .before .before .before .before .before .before .before .before .before .before .before .before .before .before .before .before .before .before .before .before .before .before .before .before .before .before .before .before .before .before .before .before .before .before .before .before .before .before .before .before .before .before .before .before .before .before .before .before .before .before .before .before .before) .pre .1 .enters .laid .form) (split-left (c .before .before .before .before .before .before .before .before .before .before .before .before .before .before .before .before .before .before) .stays .form)
+
+  split-same-length-14 : split-lts.Need-same-length-14 (split-claims t) (split-at t) split.Post split-Inv-loop split-μ-loop
+  split-same-length-14 c = ap length (split-left (c .before .before .before .before .before .before .before .before .before .before .before .before .before .before .before .before .before .before) .stays .names)
+
+  split-same-length-15 : split-lts.Need-same-length-15 (split-claims t) (split-at t) split.Post split-Inv-loop split-μ-loop
+  split-same-length-15 c = (c .before .before) .improved .ensures .long ∙ split-left (c .before .before .before .before .before .before .before .before .before .before .before .before .before .before .before .before .before .before) .stays .best-long
+
+  split-same-length-16 : split-lts.Need-same-length-16 (split-claims t) (split-at t) split.Post split-Inv-loop split-μ-loop
+  split-same-length-16 c = split-left (c .before .before .before .before .before .before .before .before .before .before .before .before .before .before .before .before .before .before) .stays .trail-long
+
+  split-returns-4 : split-lts.Need-returns-4 (split-claims t) (split-at t) split.Post split-Inv-loop split-μ-loop
+  split-returns-4 c =
+      let b = c .before .before .before .before .before .before .before .before .before in
+      let e = counted-of b in
+      let d = separated-of e in
+      let l = turn-at (unmerged-of d) in
+      let a = start-of l in
+      let f = (c .before .before) .improved .ensures in
+      record {
+        comes = l .loop .inv .rest _ _ (split-apart d .rest _ _
+            (comes-leaf (rule (a .args .n)) (64 * a .args .words) (separated-node d) (apart-in d .best) (entering-of (unmerged-of d) .enter .result) (split-enters d .ready) (e .before .counted .result) (split-on e)
+            (split-uncut b) _ _ (sym ((c .before .before .before .before .before .before .before) .choose-among .ensures (separated-node d) (split-enters d .ready .held)) ∙ ap choiceOf ((c .before .before .before .before .before) .enum-told .given .1))
+            (f .is (64 * a .args .words) _ (form-few (split-enters d .laid .form)) (split-ready e))));
+        left = left-best _ _ _ _ _ (split-left d) _ (f .long);
+      }
+
+  split-enum-known-c : split-lts.Need-enum-known-c (split-claims t) (split-at t) split.Post split-Inv-loop split-μ-loop
+  split-enum-known-c c = search needs
+
+  split-loop-less : split-lts.Need-loop-less (split-claims t) (split-at t) split.Post split-Inv-loop split-μ-loop
+  split-loop-less c = split-apart (c .before .before .before .before .before .before .before .before .before .before .before .before .before .before) .fewer
+
+  split-loop-again : split-lts.Need-loop-again (split-claims t) (split-at t) split.Post split-Inv-loop split-μ-loop
+  split-loop-again c =
+      let b = c .before .before .before .before .before in
+      let e = counted-of b in
+      let d = separated-of e in
+      let l = turn-at (unmerged-of d) in
+      let a = start-of l in
+      let k = (c .before) .c .given in
+      let p : pair (a .args .n) (view (separated-node d)) ≡ some (k .0 .0, k .0 .1 .0) =
+      sym ((c .before .before .before) .choose-among .ensures (separated-node d) (split-enters d .ready .held)) ∙ ap choiceOf (k .1) in
+      record {
+        enters = record { ready = split-ready e; laid = split-enters d .laid };
+        chosen = p;
+        lives = split-apart d .lives ∙ l .loop .inv .lives;
+        rest = λ best r f. l .loop .inv .rest best r (split-apart d .rest best r
+            (comes-fork (rule (a .args .n)) (64 * a .args .words) (separated-node d) (apart-in d .best) (entering-of (unmerged-of d) .enter .result) (split-enters d .ready) (e .before .counted .result) (split-on e)
+            (split-uncut b) best r (k .0 .0) (k .0 .1 .0) p f));
+        left = split-left d;
+      }
 
 pub +enter+split-spec : {M : Type 1} → statement M
 +enter+split-spec = close μ-enter μ-split (λ t. enter-lts.spec (enter-claims t)
@@ -349,13 +609,22 @@ pub +enter+split-spec : {M : Type 1} → statement M
     (enter-counted-requires t)
     (enter-returns t)
     (enter-reaches-requires t)
+    (enter-same-length t)
     (enter-returns-2 t)
     (enter-choose-among-requires t)
     (enter-enum-told t)
     (enter-improved-requires t)
     (enter-enum-known-c t)
     (enter-split-requires t)
+    (enter-restore-requires t)
+    (enter-same-length-2 t)
+    (enter-same-length-3 t)
+    (enter-same-length-4 t)
     (enter-returns-3 t)
+    (enter-same-length-5 t)
+    (enter-same-length-6 t)
+    (enter-same-length-7 t)
+    (enter-same-length-8 t)
     (enter-returns-4 t))
     λ t. split-lts.spec (split-claims t)
     (split-at t)
@@ -363,21 +632,38 @@ pub +enter+split-spec : {M : Type 1} → statement M
     split-Inv-loop
     split-μ-loop
     (split-loop-holds t)
-    (split-merge-rows-requires t)
-    (split-cast-rename t)
-    (split-cast-rename-2 t)
-    (split-rename-requires t)
+    (split-merge-at-requires t)
     (split-without-requires t)
+    (split-add-enter t)
     (split-enter-requires t)
+    (split-unmerge-at-requires t)
+    (split-same-length t)
+    (split-same-length-2 t)
+    (split-same-length-3 t)
+    (split-same-length-4 t)
     (split-returns t)
-    (split-separate-rows-requires t)
+    (split-add-separate-at t)
+    (split-separate-at-requires t)
+    (split-add-more t)
     (split-counted-requires t)
+    (split-same-length-5 t)
+    (split-same-length-6 t)
+    (split-same-length-7 t)
+    (split-same-length-8 t)
     (split-returns-2 t)
     (split-reaches-requires t)
+    (split-same-length-9 t)
+    (split-same-length-10 t)
+    (split-same-length-11 t)
+    (split-same-length-12 t)
     (split-returns-3 t)
     (split-choose-among-requires t)
     (split-enum-told t)
     (split-improved-requires t)
+    (split-same-length-13 t)
+    (split-same-length-14 t)
+    (split-same-length-15 t)
+    (split-same-length-16 t)
     (split-returns-4 t)
     (split-enum-known-c t)
     (split-loop-less t)

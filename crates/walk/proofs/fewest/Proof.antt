@@ -1,12 +1,13 @@
 -- `walk::fewest` meets its contract. Assumes nothing.
 use mathlib.Core.Path.{subst}
+use native.Mathlib.Omega.{arith}
 use borrow.Author.Needs.{needs}
 use lib.ListN.{length}
 use Rattle.zykov.specs.Walk.{bounded, boundedWalk}
 use Rattle.bounds.specs.Names.{mycielskian}
 use Rattle.walk.specs.Promise.{Open, Gated}
-use Rattle.steps.proofs.Starting.{root-parts, ready-start}
 use Rattle.walk.proofs.Answers.{bounded-answers}
+use Rattle.walk.proofs.Lending.{lends-one, walked-one}
 use Rattle.walk.proofs.Meets.{promised-told, promised-refused}
 use Rattle.walk.proofs.fewest.Statement.{statement}
 use Rattle.walk.proofs.fewest.Tie as tie
@@ -27,17 +28,26 @@ enum-known-g c = search needs
 enum-told : tie.Need-enum-told
 enum-told c = search needs
 
-root-requires : tie.Need-root-requires
-root-requires c κs = opened c .sound
+slice-aggregate-bounded-walk : tie.Need-slice-aggregate-bounded-walk
+slice-aggregate-bounded-walk c = search needs
 
-start-requires : tie.Need-start-requires
-start-requires c κs = opened (c .before .before .before .before .before) .sound .apart .inside .few
+slice-aggregate-bounded-walk-2 : tie.Need-slice-aggregate-bounded-walk-2
+slice-aggregate-bounded-walk-2 c = search needs
 
-enter-requires : tie.Need-enter-requires
-enter-requires c κs = ready-start _ _ _ _ (root-parts _ _ (c .before .before .before .before .before .root .ensures)) (c .start .ensures)
+slice-aggregate-bounded-walk-3 : tie.Need-slice-aggregate-bounded-walk-3
+slice-aggregate-bounded-walk-3 c = search needs
+
+slice-aggregate-bounded-walk-4 : tie.Need-slice-aggregate-bounded-walk-4
+slice-aggregate-bounded-walk-4 c = search needs
+
+bounded-walk-requires : tie.Need-bounded-walk-requires
+bounded-walk-requires c κs = lends-one _ (opened (c .before .before .before .before) .sound)
+
+slice-aggregate-told : tie.Need-slice-aggregate-told
+slice-aggregate-told c = search needs
 
 told-requires : tie.Need-told-requires
-told-requires c κs = opened (c .before .before .before .before .before .before .before .before)
+told-requires c κs = let o = opened (c .before .before .before .before .before .before .before .before .before .before .before) in (o, omega (arith, o .sound .apart .inside .few, c .before .before .before .best2 .given))
 
 returns : tie.Need-returns
 returns c =
@@ -51,13 +61,10 @@ same-length c = search needs
 
 returns-2 : tie.Need-returns-2
 returns-2 c =
-    let t = c .before .before in
-    let e = t .before .before in
-    let s = e .before in
-    let r = s .before .before .before .before .before in
-    let a = r .before .before .before .before .before .before .args in
-    promised-told 64 (λ n. bounded n mycielskian) (boundedWalk mycielskian) bounded-answers (a .rows .now) (a .colours .now) (a .budget) (opened (r .before)) _ (root-parts _ _ (r .root .ensures))
-    (s .start .result) (e .enter .result) (s .start .ensures) (e .enter .ensures) _ _ (t .told .ensures)
+    let w = c .before .before .before .before .before .before .before .before .before .bounded-walk in
+    let a = c .before .before .before .before .before .before .before .before .before .before .before .before .before .before .before .before .before .before .before .args in
+    promised-told 64 (λ n. bounded n mycielskian) (boundedWalk mycielskian) bounded-answers (a .rows .now) (a .colours .now) (a .budget) (opened (c .before .before .before .before .before .before .before .before .before .before .before .before .before .before)) _ (w .result)
+    (walked-one (a .rows .now) (bounded (length (a .rows .now)) mycielskian) (a .budget) _ (w .result) (w .ensures)) _ _ (c .before .before .told .ensures)
 
 pub fewest-spec : {M : Type 1} → statement M
 fewest-spec =
@@ -66,9 +73,12 @@ fewest-spec =
     admitted-requires
     enum-known-g
     enum-told
-    root-requires
-    start-requires
-    enter-requires
+    slice-aggregate-bounded-walk
+    slice-aggregate-bounded-walk-2
+    slice-aggregate-bounded-walk-3
+    slice-aggregate-bounded-walk-4
+    bounded-walk-requires
+    slice-aggregate-told
     told-requires
     returns
     same-length

@@ -1,11 +1,12 @@
 -- `walk::plain` meets its contract. Assumes nothing.
 use mathlib.Core.Path.{subst}
+use native.Mathlib.Omega.{arith}
 use borrow.Author.Needs.{needs}
 use lib.ListN.{length}
 use Rattle.zykov.specs.Walk.{plain, plainWalk}
 use Rattle.walk.specs.Promise.{Open, Gated}
-use Rattle.steps.proofs.Starting.{root-parts, ready-start}
 use Rattle.walk.proofs.Answers.{plain-answers}
+use Rattle.walk.proofs.Lending.{lends-one, walked-one}
 use Rattle.walk.proofs.Meets.{promised-told, promised-refused}
 use Rattle.walk.proofs.plain.Statement.{statement}
 use Rattle.walk.proofs.plain.Tie as tie
@@ -26,17 +27,26 @@ enum-known-g c = search needs
 enum-told : tie.Need-enum-told
 enum-told c = search needs
 
-root-requires : tie.Need-root-requires
-root-requires c κs = opened c .sound
+slice-aggregate-plain-walk : tie.Need-slice-aggregate-plain-walk
+slice-aggregate-plain-walk c = search needs
 
-start-requires : tie.Need-start-requires
-start-requires c κs = opened (c .before .before .before .before .before) .sound .apart .inside .few
+slice-aggregate-plain-walk-2 : tie.Need-slice-aggregate-plain-walk-2
+slice-aggregate-plain-walk-2 c = search needs
 
-explore-requires : tie.Need-explore-requires
-explore-requires c κs = ready-start _ _ _ _ (root-parts _ _ (c .before .before .before .before .before .root .ensures)) (c .start .ensures)
+slice-aggregate-plain-walk-3 : tie.Need-slice-aggregate-plain-walk-3
+slice-aggregate-plain-walk-3 c = search needs
+
+slice-aggregate-plain-walk-4 : tie.Need-slice-aggregate-plain-walk-4
+slice-aggregate-plain-walk-4 c = search needs
+
+plain-walk-requires : tie.Need-plain-walk-requires
+plain-walk-requires c κs = lends-one _ (opened (c .before .before .before .before) .sound)
+
+slice-aggregate-told : tie.Need-slice-aggregate-told
+slice-aggregate-told c = search needs
 
 told-requires : tie.Need-told-requires
-told-requires c κs = opened (c .before .before .before .before .before .before .before .before)
+told-requires c κs = let o = opened (c .before .before .before .before .before .before .before .before .before .before .before) in (o, omega (arith, o .sound .apart .inside .few, c .before .before .before .best2 .given))
 
 returns : tie.Need-returns
 returns c =
@@ -50,13 +60,10 @@ same-length c = search needs
 
 returns-2 : tie.Need-returns-2
 returns-2 c =
-    let t = c .before .before in
-    let e = t .before .before in
-    let s = e .before in
-    let r = s .before .before .before .before .before in
-    let a = r .before .before .before .before .before .before .args in
-    promised-told 64 plain plainWalk plain-answers (a .rows .now) (a .colours .now) (a .budget) (opened (r .before)) _ (root-parts _ _ (r .root .ensures))
-    (s .start .result) (e .explore .result) (s .start .ensures) (e .explore .ensures) _ _ (t .told .ensures)
+    let w = c .before .before .before .before .before .before .before .before .before .plain-walk in
+    let a = c .before .before .before .before .before .before .before .before .before .before .before .before .before .before .before .before .before .before .before .args in
+    promised-told 64 plain plainWalk plain-answers (a .rows .now) (a .colours .now) (a .budget) (opened (c .before .before .before .before .before .before .before .before .before .before .before .before .before .before)) _ (w .result)
+    (walked-one (a .rows .now) (plain (length (a .rows .now))) (a .budget) _ (w .result) (w .ensures)) _ _ (c .before .before .told .ensures)
 
 pub plain-spec : {M : Type 1} → statement M
 plain-spec =
@@ -65,9 +72,12 @@ plain-spec =
     admitted-requires
     enum-known-g
     enum-told
-    root-requires
-    start-requires
-    explore-requires
+    slice-aggregate-plain-walk
+    slice-aggregate-plain-walk-2
+    slice-aggregate-plain-walk-3
+    slice-aggregate-plain-walk-4
+    plain-walk-requires
+    slice-aggregate-told
     told-requires
     returns
     same-length

@@ -1,0 +1,29 @@
+-- `steps::unmerge_at` meets its contract. Assumes nothing.
+use native.Mathlib.Omega.{arith}
+use borrow.Author.Needs.{needs}
+use Rattle.steps.proofs.Undoing.{form-few}
+use Rattle.steps.proofs.unmerge_at.Statement.{statement}
+use Rattle.steps.proofs.unmerge_at.Tie as tie
+
+cast-names : tie.Need-cast-names
+cast-names c = omega (arith, form-few (c .before .before .pre .0))
+
+slice-write-names : tie.Need-slice-write-names
+slice-write-names c = search needs
+
+unmerge-requires : tie.Need-unmerge-requires
+unmerge-requires c κs = search needs
+
+same-length : tie.Need-same-length
+same-length c = search needs
+
+same-length-2 : tie.Need-same-length-2
+same-length-2 c = search needs
+
+returns : tie.Need-returns
+returns c = search needs
+
+pub unmerge-at-spec : {M : Type 1} → statement M
+unmerge-at-spec =
+    tie.close
+    (tie.spec cast-names slice-write-names unmerge-requires same-length same-length-2 returns)

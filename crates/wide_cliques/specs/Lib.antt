@@ -1,0 +1,2 @@
+-- A clique on the way, in four words.
+pub mod Wide

@@ -1,0 +1,2 @@
+-- H in rows of four words.
+pub mod Wide
