@@ -1,18 +1,16 @@
 -- Paths in a Zykov tree: a decision is made just where the pair rule gives a pair, each leaves fewer pairs open, and so a path has no more decisions
 -- than there are pairs of entries, n (n - 1) / 2. Assumes nothing.
 use mathlib.Core.Path.{_≡_, ap}
-use mathlib.Core.Bool.{Bool, true, false}
+use mathlib.Core.Bool.{false}
 use mathlib.Core.List.{[], _∷_}
 use mathlib.Core.Option.{none, some}
-use Prim.Native.Nat.{ℕ, zero, suc, _+_, _*_, _≤_, _<_, max, zero-le}
+use Prim.Native.Nat.{ℕ, _+_, _*_, _≤_, zero-le}
 use native.Mathlib.Omega.{arith}
-use lib.Dec.{T, ltb, ltb→lt}
+use lib.Dec.{T}
 use lib.ListN.{length}
-use Rattle.sets.specs.Lists.{bit, count, table, cross}
-use Rattle.sets.proofs.ListLaws.{count-append}
-use Rattle.sets.proofs.TestLaws.{and-l}
-use Rattle.graphs.specs.Graph.{Graph, gap, missing, merge, separate, pair}
+use Rattle.graphs.specs.Graph.{Graph, missing, merge, separate, pair}
 use Rattle.graphs.specs.Good.{Good, Chosen}
+use Rattle.graphs.proofs.MeasureLaws.{missing-half}
 use Rattle.zykov.specs.Tree.{Tree, leaf, fork, below}
 use Rattle.zykov.proofs.Grown.{below-ind, below-leaf, below-fork, merge-fewer, separate-fewer}
 use Rattle.pauses.specs.Path.{Decision, Path, merged, separated, isPath}
@@ -50,28 +48,6 @@ module _ (n : ℕ) where
       at-fork g u v k e c l r a b (merged ∷ p) t = omega (arith, a p t, merge-fewer n g u v k c)
       at-fork g u v k e c l r a b (separated ∷ p) t = omega (arith, b p t, separate-fewer n g u v k c)
 
-  -- ---- no more gaps than pairs
-
-  module _ (g : Graph) where
-    -- of a row, only the places after x
-    row-gaps : (x m : ℕ) (f : ℕ → ℕ) (i : ℕ) → ((j : ℕ) → f j ≡ i + j) → count (gap n g) (table (λ y. (x, f y)) m) + max (suc x) i ≤ max (suc x) (i + m)
-    row-gaps x zero f i h = omega arith
-    row-gaps x (suc m) f i h =
-        go (gap n g (x, f zero)) (λ t. ltb→lt x (f zero) (and-l (ltb x (f zero)) _ t)) (row-gaps x m (λ j. f (suc j)) (suc i) (λ j. omega (arith, h (suc j))))
-      where
-        go : (b : Bool) → (T b → x < f zero) → count (gap n g) (table (λ y. (x, f (suc y))) m) + max (suc x) (suc i) ≤ max (suc x) (suc i + m)
-            → bit b + count (gap n g) (table (λ y. (x, f (suc y))) m) + max (suc x) i ≤ max (suc x) (i + suc m)
-        go true l r = omega (arith, l tt, h zero)
-        go false l r = omega (arith, r)
-
-    rows-gaps : (k : ℕ) → k ≤ n → 2 * count (gap n g) (cross k n) + k * k + k ≤ 2 * (k * n)
-    rows-gaps zero h = zero-le
-    rows-gaps (suc k) h =
-        omega (arith, rows-gaps k (omega arith), row-gaps k n (λ y. y) 0 (λ j. omega arith), count-append (gap n g) (cross k n) (table (λ y. (k, y)) n))
-
-    pub missing-half : 2 * missing n g + n ≤ n * n
-    missing-half = omega (arith, rows-gaps n (omega arith))
-
   -- so no path has more than n (n - 1) / 2 decisions
   pub path-short : (g : Graph) → Good n g → (p : Path) → T (isPath (below n g) p) → 2 * length p + n ≤ n * n
-  path-short g k p t = omega (arith, path-open g k p t, missing-half g)
+  path-short g k p t = omega (arith, path-open g k p t, missing-half n g)
