@@ -1,15 +1,16 @@
 -- A path in numbers: it is written from its end on, one mark for each merging, and what is written reads back as the path; no other numbers have its
 -- bits. Assumes nothing.
-use mathlib.Core.Path.{_≡_, refl, sym, ap, ap₂, _∙_}
+use mathlib.Core.Path.{_≡_, refl, sym, ap, ap₂, _∙_, subst}
 use mathlib.Core.Bool.{Bool, true, false, _||_}
-use mathlib.Core.List.{List, [], _∷_, _++_}
+use mathlib.Core.List.{List, [], _∷_}
 use Prim.Native.Nat.{ℕ, zero, suc, _+_, _*_, _<_, _≤_, _/_, _%_, _^_}
 use native.Mathlib.Nat.{not-suc-le-zero}
+use native.Mathlib.Numerals.{add-one}
 use native.Mathlib.Decide.{ℕ-discrete}
 use native.Mathlib.Omega.{arith}
 use borrow.Author.Tests.{ne-eqb}
 use lib.Dec.{T, eqb, eqb→eq}
-use lib.ListN.{length, getD, set, length-set, List·getD-append}
+use lib.ListN.{length, getD, set, drop, length-set}
 use lib.Seq.{getD-set-same, getD-set-other, ext-getD}
 use Rattle.sets.specs.Lists.{bit}
 use Rattle.sets.specs.Set.{has, IsWith}
@@ -17,7 +18,7 @@ use Rattle.sets.proofs.TestLaws.{eqb-of, eqb-same, T-ext, or-false, or-turn, or
 use Rattle.sets.proofs.SetLaws.{has-suc, same-below}
 use Rattle.sets.proofs.ListLaws.{length-table, getD-table}
 use Rattle.pauses.specs.Path.{Path, merged, separated}
-use Rattle.pauses.specs.Marks.{isMarked, went, Marks, Writes, decision, decisions, binary, marksOf}
+use Rattle.pauses.specs.Marks.{isMarked, went, Marks, Writes, decision, decisions, binary, marksOf, Ends, Turns, Leaves}
 
 -- ---- written
 
@@ -50,6 +51,42 @@ marks-set marks d x h k = record { long = length-set marks (d / 64) x; is = λ j
     go j (no q) =
         ap (λ y. has y (j % 64)) (getD-set-other marks (d / 64) (j / 64) x zero q)
         ∙ sym (or-false (isMarked marks j)) ∙ ap (λ b. isMarked marks j || b) (sym (ne-eqb d j (λ e. q (ap (λ y. y / 64) (sym e)))))
+
+-- ---- left by a walk, as its levels return
+
+-- where it stops
+pub leaves-here : (path : List ℕ) (d : ℕ) (r : List ℕ) → 0 < length path → Ends path d r → Leaves path d [] r
+leaves-here path d r h e = subst (Leaves path d []) (sym (e .is)) (go path h)
+  where
+    go : (path : List ℕ) → 0 < length path → Leaves path d [] (set path 0 d)
+    go [] h = absurd (not-suc-le-zero h)
+    go (x ∷ path) h = record { long = refl; deep = omega arith; marks = writes-none path d }
+
+pub ends-at : {path q : List ℕ} {d : ℕ} {r : List ℕ} → path ≡ q → Ends path d r → Ends q d r
+ends-at {d = d} {r = r} e k = subst (λ x. Ends x d r) e k
+
+pub ends-long : {path : List ℕ} {d : ℕ} {r : List ℕ} → Ends path d r → length r ≡ length path
+ends-long {path} {d} e = ap length (e .is) ∙ length-set path 0 d
+
+-- at a merging, and at a separation, above it
+module _ (path : List ℕ) (d : ℕ) (p : Path) (w : List ℕ) (k : Leaves path (suc d) p w) where
+  pub leaves-merged : (r : List ℕ) → Turns w d r → Leaves path d (merged ∷ p) r
+  leaves-merged r t = record { long = t .long ∙ k .long; deep = omega (arith, t .deep, k .deep); marks = writes-merged (drop 1 path) d p (drop 1 w) (k .marks) (drop 1 r) (t .marks) }
+
+  pub leaves-separated : Leaves path d (separated ∷ p) w
+  leaves-separated = record { long = k .long; deep = omega (arith, k .deep); marks = writes-separated (drop 1 path) d p (drop 1 w) (k .marks) }
+
+-- one number with a bit more
+pub turns-set : (path : List ℕ) (d e x : ℕ) → e ≡ d → d / 64 + 1 < length path → IsWith (getD path (d / 64 + 1) zero) (d % 64) x
+    → Turns path e (set path (d / 64 + 1) x)
+turns-set path d e x same h k =
+    subst (λ z. Turns path z (set path (d / 64 + 1) x)) (sym same)
+    (subst (λ i. Turns path d (set path i x)) (sym (add-one (d / 64)))
+    (go path (subst (λ i. i < length path) (add-one (d / 64)) h) (subst (λ i. IsWith (getD path i zero) (d % 64) x) (add-one (d / 64)) k)))
+  where
+    go : (path : List ℕ) → suc (d / 64) < length path → IsWith (getD path (suc (d / 64)) zero) (d % 64) x → Turns path d (set path (suc (d / 64)) x)
+    go [] h k = absurd (not-suc-le-zero h)
+    go (y ∷ path) h k = record { long = ap suc (length-set path (d / 64) x); deep = refl; marks = marks-set path d x (omega arith) k }
 
 -- ---- read back
 

@@ -8,6 +8,8 @@
 --   decisions marks d k : the k decisions from d on
 --   binary f k          : the number whose bits below k are as f says
 --   marksOf c p         : c numbers with the bits of p and no other
+--   Ends, Turns, Leaves : of numbers whose first says how many decisions there are, and the rest are marks: in r there are d of them; in r decision d goes
+--                         to the merged graph; in r the decisions of p from d on are left, and are the last
 --
 -- Assumes nothing.
 use mathlib.Core.Path.{_≡_}
@@ -15,7 +17,7 @@ use mathlib.Core.Bool.{Bool, false, _||_, cond}
 use mathlib.Core.List.{List, [], _∷_}
 use Prim.Native.Nat.{ℕ, zero, suc, _+_, _*_, _/_, _%_}
 use lib.Dec.{eqb}
-use lib.ListN.{length, getD}
+use lib.ListN.{length, getD, set, drop}
 use Rattle.sets.specs.Lists.{bit, table}
 use Rattle.sets.specs.Set.{has}
 use Rattle.pauses.specs.Path.{Decision, Path, merged, separated}
@@ -49,3 +51,16 @@ binary f (suc k) = bit (f 0) + 2 * binary (λ i. f (suc i)) k
 
 unfoldable pub marksOf : ℕ → Path → List ℕ
 marksOf c p = table (λ i. binary (λ j. went p 0 (i * 64 + j)) 64) c
+
+pub record Ends (path : List ℕ) (d : ℕ) (r : List ℕ) : Type 0 where
+  pub is : r ≡ set path 0 d
+
+pub record Turns (path : List ℕ) (d : ℕ) (r : List ℕ) : Type 0 where
+  pub long : length r ≡ length path
+  pub deep : getD r 0 zero ≡ getD path 0 zero
+  pub marks : Marks (drop 1 path) d (drop 1 r)
+
+pub record Leaves (path : List ℕ) (d : ℕ) (p : Path) (r : List ℕ) : Type 0 where
+  pub long : length r ≡ length path
+  pub deep : getD r 0 zero ≡ d + length p
+  pub marks : Writes (drop 1 path) d p (drop 1 r)

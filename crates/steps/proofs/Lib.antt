@@ -3,6 +3,7 @@ mod Turns
 mod Splits
 mod Compare
 mod Undoing
+mod Halts
 pub mod Copying
 mod Rounds
 mod Starting

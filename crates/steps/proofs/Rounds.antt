@@ -28,6 +28,7 @@ use Rattle.steps.proofs.Undoing.{merged-becomes, merged-laid, kept-agai
 pub record Apart (R : ℕ → Rule) (words n : ℕ) (live : Set) (l : Lent) (top a b : ℕ) (t : State) (z : Lent) (t′ : State) : Type 0 where
   pub enters : (i : ℕ) → i ≡ suc top → Enters words n live z i t′
   pub left : (l₀ : Lent) (at more : ℕ) → top ≡ at + more → Left words l₀ at more l → Left words l₀ at (more + 1) z
+  pub is : view (nodeIn words n live z) ≡ separate a b (view (nodeIn words n live l))
   pub fewer : open-pairs (nodeIn words n live z) < open-pairs (nodeIn words n live l)
   pub lives : living (nodeIn words n live z) ≡ living (nodeIn words n live l)
   pub rest : (best : List ℕ) (r : State) → Comes n t′ best r (within (R n) (t′ .budget) (below n (view (nodeIn words n live z))) (stateOf n (z .best) t′))
@@ -70,6 +71,9 @@ module _ {words n : ℕ} {live : Set} {l : Lent} {top a b : ℕ} {t : State} (e 
       laid = merged-laid words n live l top a b at-g (e .laid) rows′ names′ d m fewer w;
     }
 
+    pub round-is : view (nodeIn words n fewer mixed) ≡ merge a b (view g)
+    round-is = becomes .is
+
     pub round-falls : suc (living (nodeIn words n fewer mixed)) ≡ living g
     round-falls = merged-falls (64 * words) g a b (e .ready .held) c (nodeIn words n fewer mixed) becomes
 
@@ -99,6 +103,7 @@ module _ {words n : ℕ} {live : Set} {l : Lent} {top a b : ℕ} {t : State} (e 
             laid = parted-laid words n live l top a b at-g (e .laid) y again rows trail part i f;
           };
           left = left-parted words n live l top a b at-g (e .laid) y again rows trail part;
+          is = parted .is;
           fewer = separated-falls (64 * words) g a b (e .ready .held) c (nodeIn words n live (z rows trail)) parted;
           lives = separated-lives (64 * words) g a b (e .ready .held) c (nodeIn words n live (z rows trail)) parted;
           rest = onward-on (64 * words) g a b (e .ready .held) c R (l .best) t (nodeIn words n fewer mixed) becomes (x .best) t′ (en .comes) o (nodeIn words n live (z rows trail)) parted;

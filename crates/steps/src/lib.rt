@@ -16,15 +16,21 @@ use wide::size;
 use wide::without;
 ghost use mathlib.Core.Path.{_≡_};
 ghost use mathlib.Core.List.{_++_};
-ghost use Prim.Native.Nat.{_*_, _≤_, _<_};
+ghost use Prim.Native.Nat.{_+_, _-_, _*_, _^_, _≤_, _<_};
 ghost use lib.ListN.{length, drop};
+ghost use Rattle.sets.specs.Set.{size as sizeOf};
 ghost use Rattle.wide.specs.Words.{num, rowsOf};
 ghost use Rattle.wide.specs.Form.{Form, Fits};
 ghost use Rattle.undo.specs.Forest.{Forest};
 ghost use Rattle.clashes.specs.Divisions.{alone as aloneOf};
 ghost use Rattle.bounds.specs.Names.{mycielskian};
-ghost use Rattle.zykov.specs.Walk.{become, compare, bounded, plain};
+ghost use Rattle.clashes.specs.Matrix.{matrix};
+ghost use Rattle.zykov.specs.Tree.{zykov};
+ghost use Rattle.zykov.specs.Walk.{become, compare, bounded, plain, start as startOf};
+ghost use Rattle.pauses.specs.Keeping.{keeping};
+ghost use Rattle.pauses.specs.Marks.{Ends, Turns};
 ghost use Rattle.steps.specs.Going.{lending, begun, counted as countedOf, Finds, Merging, Unmerging, Parting, Enters, Entered, Splits, Onward, Lends, Lays, Walked};
+ghost use Rattle.steps.specs.Halting.{Room, Places, Halted, HaltedOn};
 
 // A walk on its way: the number of groups of the best division, the nodes entered, the complete graphs met, and the budget of nodes; out says that it
 // would have had to enter more.
@@ -111,7 +117,26 @@ fn separate_at(words: usize, rows: &mut [u64], trail: &mut [u16], top: usize, u:
     separate(words, rows, u, v);
 }
 
-// The node of these parts is entered. Rows and names are as they were when it is done, and so is the trail below at.
+// Where a walk stops, before a node with these live vertices and `top` pairs separated on the way to it: how many decisions lead there is left.
+fn halt(path: &mut [u64], n: usize, live: Set, top: usize)
+    requires { ⌜ (sizeOf 256 (num live) ≤ n) × (64 + (top + (n - sizeOf 256 (num live))) ≤ 64 * length (now path)) × (top + n < 2 ^ 64) ⌝ }
+    ensures { λ r. ⌜ Ends (now (path .entry)) (top + (n - sizeOf 256 (num live))) (now (path .exit)) ⌝ }
+{
+    path[0] = (top + (n - size(live))) as u64;
+}
+
+// The decision at such a node went to the merged graph.
+fn mark(path: &mut [u64], n: usize, live: Set, top: usize)
+    requires { ⌜ (sizeOf 256 (num live) ≤ n) × (65 + (top + (n - sizeOf 256 (num live))) ≤ 64 * length (now path)) × (top + n < 2 ^ 64) ⌝ }
+    ensures { λ r. ⌜ Turns (now (path .entry)) (top + (n - sizeOf 256 (num live))) (now (path .exit)) ⌝ }
+{
+    let d = top + (n - size(live));
+    let i = d / 64 + 1;
+    path[i] = sets::with(path[i], d % 64);
+}
+
+// The node of these parts is entered. Rows and names are as they were when it is done, and so is the trail below at. Where the budget has no more, the path
+// to the next node to enter is left.
 fn enter(
     words: usize,
     n: usize,
@@ -120,14 +145,18 @@ fn enter(
     names: &mut [u8],
     best: &mut [u8],
     trail: &mut [u16],
+    path: &mut [u64],
     at: usize,
     s: State,
 ) -> State
     requires { ⌜ Enters words n live (lending (now rows) (now names) (now best) (now trail)) at s ⌝ }
+    requires { ⌜ Room words n live (lending (now rows) (now names) (now best) (now trail)) at (now path) ⌝ }
     ensures { λ r. ⌜ Entered words (bounded n mycielskian) n live (lending (now (rows .entry)) (now (names .entry)) (now (best .entry)) (now (trail .entry))) at s (lending (now (rows .exit)) (now (names .exit)) (now (best .exit)) (now (trail .exit))) r ⌝ }
+    ensures { λ r. ⌜ Halted (bounded n mycielskian) words n live (lending (now (rows .entry)) (now (names .entry)) (now (best .entry)) (now (trail .entry))) at s (now (best .exit)) r (now (path .entry)) (now (path .exit)) ⌝ }
 {
     let entered = counted(s);
     if entered.out {
+        halt(path, n, live, at);
         return entered;
     }
     if reaches(words, live, rows, entered.k) {
@@ -137,7 +166,20 @@ fn enter(
     match c {
         Choice::Complete => improved(n, live, names, best, entered),
         Choice::Split(u, v) => {
-            let l = split(words, n, live, rows, names, best, trail, at, u, v, entered);
+            let l = split(
+                words,
+                n,
+                live,
+                rows,
+                names,
+                best,
+                trail,
+                path,
+                at,
+                u,
+                v,
+                entered,
+            );
             restore(words, rows, trail, at, l.more);
             l.state
         }
@@ -154,13 +196,16 @@ fn split(
     names: &mut [u8],
     best: &mut [u8],
     trail: &mut [u16],
+    path: &mut [u64],
     at: usize,
     u: usize,
     v: usize,
     s: State,
 ) -> Looped
     requires { ⌜ Splits words n live (lending (now rows) (now names) (now best) (now trail)) at u v s ⌝ }
+    requires { ⌜ Room words n live (lending (now rows) (now names) (now best) (now trail)) at (now path) ⌝ }
     ensures { λ r. ⌜ Onward words (bounded n mycielskian) n live (lending (now (rows .entry)) (now (names .entry)) (now (best .entry)) (now (trail .entry))) at u v s (lending (now (rows .exit)) (now (names .exit)) (now (best .exit)) (now (trail .exit))) (r .state) (r .more) ⌝ }
+    ensures { λ r. ⌜ HaltedOn (bounded n mycielskian) words n live (lending (now (rows .entry)) (now (names .entry)) (now (best .entry)) (now (trail .entry))) at u v s (now (best .exit)) (r .state) (now (path .entry)) (now (path .exit)) ⌝ }
 {
     let mut a = u;
     let mut b = v;
@@ -176,11 +221,13 @@ fn split(
             names,
             best,
             trail,
+            path,
             at + more,
             t,
         );
         unmerge_at(words, rows, names, a, b, d);
         if t.out {
+            mark(path, n, live, at + more);
             return Looped {
                 state: t,
                 more: more,
@@ -190,6 +237,7 @@ fn split(
         more += 1;
         t = counted(t);
         if t.out {
+            halt(path, n, live, at + more);
             return Looped {
                 state: t,
                 more: more,
@@ -323,7 +371,7 @@ fn lay(n: usize, rows: &[u64], held: &mut [u64], names: &mut [u8], best: &mut [u
     alone(n, best);
 }
 
-// The bounded walk over a list of n entries, in the room that is lent.
+// The bounded walk over a list of n entries, in the room that is lent. Where the budget has no more, the path to the next node to enter is left.
 pub fn bounded_walk(
     words: usize,
     n: usize,
@@ -332,10 +380,13 @@ pub fn bounded_walk(
     names: &mut [u8],
     best: &mut [u8],
     trail: &mut [u16],
+    path: &mut [u64],
     budget: u64,
 ) -> State
     requires { ⌜ Lends words n (now rows) (lending (now held) (now names) (now best) (now trail)) ⌝ }
+    requires { ⌜ n * n + 128 ≤ 128 * length (now path) + n ⌝ }
     ensures { λ r. ⌜ Walked (bounded n mycielskian) n (rowsOf words n (now (rows .entry))) budget (now (best .exit)) r ⌝ }
+    ensures { λ r. ⌜ Places n 0 (now (best .exit)) r (now (path .entry)) (now (path .exit)) (keeping (bounded n mycielskian) budget (zykov n (matrix (rowsOf words n (now (rows .entry))))) (startOf n)) ⌝ }
 {
     lay(n, rows, held, names, best);
     enter(
@@ -346,6 +397,7 @@ pub fn bounded_walk(
         names,
         best,
         trail,
+        path,
         0,
         start(n, budget),
     )
