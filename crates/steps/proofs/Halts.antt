@@ -82,7 +82,7 @@ module _ (n d : ℕ) (best : List ℕ) (r : State) (path path′ : List ℕ) (o 
   places-on e f = record { out = λ g. differ (sym g ∙ e); on = λ g. f; long = ap length f }
 
 -- what a walk that goes on comes to is finished
-comes-finished : (n : ℕ) (best : List ℕ) (r : State) (o : Outcome) → outcome n best r ≡ ended o → r .out ≡ false → o ≡ finished (stateOf n best r)
+pub comes-finished : (n : ℕ) (best : List ℕ) (r : State) (o : Outcome) → outcome n best r ≡ ended o → r .out ≡ false → o ≡ finished (stateOf n best r)
 comes-finished n best r (finished x) e f =
     ap finished (sym (Option·some-injective (stateOf n best r) x (sym (ap (λ b. cond b none (some (stateOf n best r))) f) ∙ e)))
 comes-finished n best r (stopped x p) e f =
@@ -119,26 +119,25 @@ module _ (R : Rule) (cap : ℕ) (h : Node) (best : List ℕ) (s : State) (ready 
 
 -- ---- the merged graph, then the separated one
 
--- below the graph that a separation leads to, seen from above it
+-- below the graph that a decision leads to, seen from above it
 module _ (n d : ℕ) (best : List ℕ) (r : State) (path path′ : List ℕ) (o : Outcome) where
   halts-under : Halts n (suc d) best r path path′ o → Halts n d best r path path′ (under separated o)
   halts-under h = record { place = separated ∷ h .place; stops = ap (under separated) (h .stops); leaves = leaves-separated path d (h .place) path′ (h .leaves) }
 
-  places-under : Places n (suc d) best r path path′ o → Places n d best r path path′ (under separated o)
+  pub places-under : Places n (suc d) best r path path′ o → Places n d best r path path′ (under separated o)
   places-under p = record { out = λ f. halts-under (p .out f); on = p .on; long = p .long }
+
+  pub places-next : Places n (suc d) best r path path′ o → r .out ≡ true → (path″ : List ℕ) → Turns path′ d path″ → (f : Described → Outcome)
+      → Places n d best r path path″ (next o f)
+  places-next p out path″ m f =
+      let h = p .out out in
+      places-out n d best r path path″ (next o f) out
+      (record { place = merged ∷ h .place; stops = ap (λ o. next o f) (h .stops); leaves = leaves-merged path d (h .place) path′ (h .leaves) path″ m })
 
 module _ (R : Rule) (n : ℕ) (g : Graph) (k : Good n g) (u v : ℕ) (e : pair n g ≡ some (u, v)) (top : ℕ) (best : List ℕ) (t : State) where
   -- the described outcome of what is left
   abbrev left : Outcome
   left = keepingOn R (t .budget) n g u v (stateOf n best t)
-
-  halts-merged : (best′ : List ℕ) (t′ : State) (path path₁ path₂ : List ℕ) (o : Outcome) → Halts n (suc (deepOf top n g)) best′ t′ path path₁ o → Turns path₁ (deepOf top n g) path₂
-      → (f : Described → Outcome) → Halts n (deepOf top n g) best′ t′ path path₂ (next o f)
-  halts-merged best′ t′ path path₁ path₂ o h m f = record {
-    place = merged ∷ h .place;
-    stops = ap (λ o. next o f) (h .stops);
-    leaves = leaves-merged path (deepOf top n g) (h .place) path₁ (h .leaves) path₂ m;
-  }
 
   module _ (gm : Graph) (is : gm ≡ merge u v g) (best′ : List ℕ) (t′ : State) (path path₁ : List ℕ)
       (p : Places n (deepOf top n gm) best′ t′ path path₁ (keeping R (t .budget) (below n gm) (stateOf n best t))) where
@@ -150,8 +149,7 @@ module _ (R : Rule) (n : ℕ) (g : Graph) (k : Good n g) (u v : ℕ) (e : pair n
     -- out below the merged graph
     pub places-merged : t′ .out ≡ true → (path₂ : List ℕ) → Turns path₁ (deepOf top n g) path₂ → Places n (deepOf top n g) best′ t′ path path₂ left
     places-merged o path₂ m =
-        places-out n (deepOf top n g) best′ t′ path path₂ left o
-        (halts-merged best′ t′ path path₁ path₂ (keeping R (t .budget) (below n (merge u v g)) (stateOf n best t)) (below-it .out o) m (keeping R (t .budget) (below n (separate u v g))))
+        places-next n (deepOf top n g) best′ t′ path path₁ (keeping R (t .budget) (below n (merge u v g)) (stateOf n best t)) below-it o path₂ m (keeping R (t .budget) (below n (separate u v g)))
 
   -- back from it, at the separated one
   module _ (gm : Graph) (is : gm ≡ merge u v g) (best′ : List ℕ) (t′ : State) (o : t′ .out ≡ false)

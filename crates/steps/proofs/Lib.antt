@@ -1,9 +1,9 @@
 -- The laws of the walks' turns.
 mod Turns
-mod Splits
+pub mod Splits
 mod Compare
-mod Undoing
-mod Halts
+pub mod Undoing
+pub mod Halts
 pub mod Copying
 mod Rounds
-mod Starting
+pub mod Starting

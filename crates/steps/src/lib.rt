@@ -87,7 +87,7 @@ fn improved(n: usize, live: Set, names: &[u8], best: &mut [u8], s: State) -> Sta
 }
 
 // In rows and names v is merged into u; told is what undoes it.
-fn merge_at(words: usize, live: Set, rows: &mut [u64], names: &mut [u8], u: usize, v: usize) -> Undo
+pub fn merge_at(words: usize, live: Set, rows: &mut [u64], names: &mut [u8], u: usize, v: usize) -> Undo
     requires { ⌜ Form words (now rows) ⌝ }
     requires { ⌜ (length (now names) ≡ 64 * words) × (u < 64 * words) × (v < 64 * words) ⌝ }
     ensures { λ r. ⌜ Merging words live (now (rows .entry)) (now (names .entry)) u v (now (rows .exit)) (now (names .exit)) r ⌝ }
@@ -97,7 +97,7 @@ fn merge_at(words: usize, live: Set, rows: &mut [u64], names: &mut [u8], u: usiz
 }
 
 // Rows and names as they were before that.
-fn unmerge_at(words: usize, rows: &mut [u64], names: &mut [u8], u: usize, v: usize, undo: Undo)
+pub fn unmerge_at(words: usize, rows: &mut [u64], names: &mut [u8], u: usize, v: usize, undo: Undo)
     requires { ⌜ Form words (now rows) ⌝ }
     requires { ⌜ (length (now names) ≡ 64 * words) × (u < 64 * words) × (v < 64 * words) ⌝ }
     requires { ⌜ Fits (64 * words) (num (undo .old)) × Fits (64 * words) (num (undo .near)) ⌝ }
@@ -108,7 +108,7 @@ fn unmerge_at(words: usize, rows: &mut [u64], names: &mut [u8], u: usize, v: usi
 }
 
 // u and v become adjacent, and the pair stands on the trail.
-fn separate_at(words: usize, rows: &mut [u64], trail: &mut [u16], top: usize, u: usize, v: usize)
+pub fn separate_at(words: usize, rows: &mut [u64], trail: &mut [u16], top: usize, u: usize, v: usize)
     requires { ⌜ Form words (now rows) ⌝ }
     requires { ⌜ (u < 64 * words) × (v < 64 * words) × (top < length (now trail)) ⌝ }
     ensures { λ r. ⌜ Parting words (now (rows .entry)) (now (trail .entry)) top u v (now (rows .exit)) (now (trail .exit)) ⌝ }
@@ -126,7 +126,7 @@ fn halt(path: &mut [u64], n: usize, live: Set, top: usize)
 }
 
 // The decision at such a node went to the merged graph.
-fn mark(path: &mut [u64], n: usize, live: Set, top: usize)
+pub fn mark(path: &mut [u64], n: usize, live: Set, top: usize)
     requires { ⌜ (sizeOf 256 (num live) ≤ n) × (65 + (top + (n - sizeOf 256 (num live))) ≤ 64 * length (now path)) × (top + n < 2 ^ 64) ⌝ }
     ensures { λ r. ⌜ Turns (now (path .entry)) (top + (n - sizeOf 256 (num live))) (now (path .exit)) ⌝ }
 {
@@ -137,7 +137,7 @@ fn mark(path: &mut [u64], n: usize, live: Set, top: usize)
 
 // The node of these parts is entered. Rows and names are as they were when it is done, and so is the trail below at. Where the budget has no more, the path
 // to the next node to enter is left.
-fn enter(
+pub fn enter(
     words: usize,
     n: usize,
     live: Set,
@@ -337,7 +337,7 @@ fn explore(
 }
 
 // The list's rows stand at the front of the lent ones.
-fn copied(rows: &[u64], held: &mut [u64])
+pub fn copied(rows: &[u64], held: &mut [u64])
     requires { ⌜ length (now rows) ≤ length (now held) ⌝ }
     ensures { λ r. ⌜ now (held .exit) ≡ now (rows .entry) ++ drop (length (now (rows .entry))) (now (held .entry)) ⌝ }
 {
@@ -349,7 +349,7 @@ fn copied(rows: &[u64], held: &mut [u64])
 }
 
 // Each of n entries has its own number.
-fn alone(n: usize, out: &mut [u8])
+pub fn alone(n: usize, out: &mut [u8])
     requires { ⌜ (n ≤ length (now out)) × (n ≤ 256) ⌝ }
     ensures { λ r. ⌜ now (out .exit) ≡ aloneOf n ++ drop n (now (out .entry)) ⌝ }
 {

@@ -1,4 +1,4 @@
--- What the calls at one word lend to a walk: 64 rows, names and bytes of zeros, and a trail with a place for each pair of 64 entries. Assumes nothing.
+-- What the calls at one word lend to a walk: 64 rows, names and bytes of zeros, a trail with a place for each pair of 64 entries, and the numbers of a path. Assumes nothing.
 use mathlib.Core.Path.{_≡_, refl, sym, subst}
 use mathlib.Core.Logic.{inl}
 use mathlib.Core.List.{List}
@@ -17,6 +17,10 @@ use Rattle.steps.specs.declared.State.{State}
 pairs-few : (n : ℕ) → n ≤ 64 → n * n ≤ 2 * 2016 + n
 pairs-few zero h = omega arith
 pairs-few (suc m) h = let k : m ≤ 63 = omega arith in let q = mul-le-mul-right m k in omega (arith, q)
+
+-- the numbers of a path have a bit for each
+pub room-one : (n : ℕ) → n ≤ 64 → n * n + 128 ≤ 128 * length (replicate 33 zero) + n
+room-one n h = omega (arith, pairs-few n h, length-replicate {A = ℕ} 33 zero)
 
 module _ (rows : List ℕ) where
   pub lends-one : Sound rows → Lends 1 (length rows) rows (lending (replicate 64 zero) (replicate 64 zero) (replicate 64 zero) (replicate 2016 zero))

@@ -91,6 +91,7 @@ pub fn fewest(rows: &[u64], colours: &mut [u8], budget: u64) -> Answer
             let mut names: [u8; 64] = [0; 64];
             let mut best: [u8; 64] = [0; 64];
             let mut trail: [u16; 2016] = [0; 2016]; // as many pairs as 64 entries have
+            let mut path: [u64; 33] = [0; 33]; // left where the budget has no more, and not told here
             let s = bounded_walk(
                 1,
                 n,
@@ -99,6 +100,7 @@ pub fn fewest(rows: &[u64], colours: &mut [u8], budget: u64) -> Answer
                 &mut names,
                 &mut best,
                 &mut trail,
+                &mut path,
                 budget,
             );
             told(rows, s, &best, colours)

@@ -7,7 +7,7 @@ use Rattle.zykov.specs.Walk.{bounded, boundedWalk}
 use Rattle.bounds.specs.Names.{mycielskian}
 use Rattle.walk.specs.Promise.{Open, Gated}
 use Rattle.walk.proofs.Answers.{bounded-answers}
-use Rattle.walk.proofs.Lending.{lends-one, walked-one}
+use Rattle.walk.proofs.Lending.{lends-one, room-one, walked-one}
 use Rattle.walk.proofs.Meets.{promised-told, promised-refused}
 use Rattle.walk.proofs.fewest.Statement.{statement}
 use Rattle.walk.proofs.fewest.Tie as tie
@@ -40,14 +40,17 @@ slice-aggregate-bounded-walk-3 c = search needs
 slice-aggregate-bounded-walk-4 : tie.Need-slice-aggregate-bounded-walk-4
 slice-aggregate-bounded-walk-4 c = search needs
 
+slice-aggregate-bounded-walk-5 : tie.Need-slice-aggregate-bounded-walk-5
+slice-aggregate-bounded-walk-5 c = search needs
+
 bounded-walk-requires : tie.Need-bounded-walk-requires
-bounded-walk-requires c κs = lends-one _ (opened (c .before .before .before .before) .sound)
+bounded-walk-requires c κs = let o = opened (c .before .before .before .before .before) .sound in (lends-one _ o, room-one _ (o .apart .inside .few))
 
 slice-aggregate-told : tie.Need-slice-aggregate-told
 slice-aggregate-told c = search needs
 
 told-requires : tie.Need-told-requires
-told-requires c κs = let o = opened (c .before .before .before .before .before .before .before .before .before .before .before) in (o, omega (arith, o .sound .apart .inside .few, c .before .before .before .best2 .given))
+told-requires c κs = let o = opened (c .before .before .before .before .before .before .before .before .before .before .before .before .before) in (o, omega (arith, o .sound .apart .inside .few, c .before .before .before .before .best2 .given))
 
 returns : tie.Need-returns
 returns c =
@@ -61,10 +64,10 @@ same-length c = search needs
 
 returns-2 : tie.Need-returns-2
 returns-2 c =
-    let w = c .before .before .before .before .before .before .before .before .before .bounded-walk in
-    let a = c .before .before .before .before .before .before .before .before .before .before .before .before .before .before .before .before .before .before .before .args in
-    promised-told 64 (λ n. bounded n mycielskian) (boundedWalk mycielskian) bounded-answers (a .rows .now) (a .colours .now) (a .budget) (opened (c .before .before .before .before .before .before .before .before .before .before .before .before .before .before)) _ (w .result)
-    (walked-one (a .rows .now) (bounded (length (a .rows .now)) mycielskian) (a .budget) _ (w .result) (w .ensures)) _ _ (c .before .before .told .ensures)
+    let w = c .before .before .before .before .before .before .before .before .before .before .bounded-walk in
+    let a = c .before .before .before .before .before .before .before .before .before .before .before .before .before .before .before .before .before .before .before .before .before .args in
+    promised-told 64 (λ n. bounded n mycielskian) (boundedWalk mycielskian) bounded-answers (a .rows .now) (a .colours .now) (a .budget) (opened (c .before .before .before .before .before .before .before .before .before .before .before .before .before .before .before .before)) _ (w .result)
+    (walked-one (a .rows .now) (bounded (length (a .rows .now)) mycielskian) (a .budget) _ (w .result) (w .ensures .0)) _ _ (c .before .before .told .ensures)
 
 pub fewest-spec : {M : Type 1} → statement M
 fewest-spec =
@@ -77,6 +80,7 @@ fewest-spec =
     slice-aggregate-bounded-walk-2
     slice-aggregate-bounded-walk-3
     slice-aggregate-bounded-walk-4
+    slice-aggregate-bounded-walk-5
     bounded-walk-requires
     slice-aggregate-told
     told-requires

@@ -1,0 +1,2 @@
+-- The laws of going on from a kept path.
+mod Replays

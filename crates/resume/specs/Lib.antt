@@ -1,0 +1,2 @@
+-- A walk that goes on from a kept path.
+pub mod Resuming
