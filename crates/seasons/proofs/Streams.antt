@@ -1,7 +1,8 @@
 -- The text, list after list, as a program reads it: an outer line, then the bytes of its list. What each step leaves is what the whole text's
--- definition says, so that the steps one after the other give what the call over the whole text gives.
+-- definition says, so that the steps one after the other give what the call over the whole text gives (`season-stepped`), and the first fault that they
+-- meet is the call's (`first-bad` to `season-unended`).
 --
--- d is an outer line without its line feed (it has none: `firstLine d ≡ d`), x the bytes of its list, r what comes after.
+-- d is an outer line without its line feed (it has none: `firstLine d ≡ d`), x the bytes of its list, r what comes after. Assumes nothing.
 use Prim.Native.Nat.{ℕ, zero, suc, _+_, _-_, _≤_, _<_}
 use mathlib.Core.Path.{_≡_, refl, sym, ap, subst, _∙_}
 use mathlib.Core.List.{List, [], _∷_, _++_}
@@ -15,8 +16,14 @@ use lib.Dec.{leb, ltb, eqb}
 use Rattle.lines.specs.Text.{firstLine}
 use Rattle.lines.specs.declared.Alone.{Alone}
 use Rattle.lines.specs.declared.Alone.the-variants.{Only, Other}
+use Rattle.tallies.specs.Season.{Plains, sum, tallyOf, added}
 use Rattle.tallies.specs.declared.Fate.{Fate}
+use Rattle.tallies.specs.declared.Tally.{Tally}
+use Rattle.tallies.proofs.Tallies.{tally-more, adds-up, Shown, season-shown}
 use Rattle.seasons.specs.Fates.{fateOf}
+use Rattle.seasons.specs.Promise.{talliedOf}
+use Rattle.seasons.specs.declared.Tallied.{Tallied}
+use Rattle.seasons.proofs.Fates.{fate-plain}
 use Rattle.seasons.specs.Outer.{listsWord, bytesWord, wordNumber, outerLine, afterLine, pieceBy, pieceOf, Outcome, lists, fault, passed, listsFrom, seasonBy, seasonOf}
 use Rattle.seasons.specs.declared.Piece.{Piece}
 use Rattle.seasons.specs.declared.Piece.the-variants.{Part, Bad}
@@ -118,11 +125,87 @@ stream-all (p ∷ ps) g c k seen r =
     ∙ stream-all ps (g .2) c (k + 1) (fateOf (p .1) ∷ seen) r
     ∙ ap (λ (n : ℕ). listsFrom c n (fates ps (fateOf (p .1) ∷ seen)) r) f
 
--- a whole season: its outcome is what the steps gave
-pub stream-season : (d : List ℕ) → firstLine d ≡ d → (ps : List (List ℕ × List ℕ)) → Good ps → wordNumber listsWord d ≡ Only (length ps) → length ps ≤ 1000
-    → seasonOf (d ++ 10 ∷ textOf ps []) ≡ lists (fates ps [])
-stream-season d e ps g q h =
-    let z : length ps ≡ length ps + 0 = omega arith in
-    stream-lists d (textOf ps []) e (length ps) q h
-    ∙ ap (λ (n : ℕ). listsFrom n 2 [] (textOf ps [])) z
-    ∙ stream-all ps g 0 2 [] []
+-- ---- the whole text, as it is read
+
+-- the first line is none, or has a number over 1,000, or is not ended
+pub first-bad : (d r : List ℕ) → firstLine d ≡ d → wordNumber listsWord d ≡ Other → seasonOf (d ++ 10 ∷ r) ≡ fault 1
+unfolding seasonOf
+first-bad d r e q = rw (outer-front d r e listsWord, q)
+
+pub first-many : (d r : List ℕ) → firstLine d ≡ d → (c : ℕ) → wordNumber listsWord d ≡ Only c → 1000 < c → seasonOf (d ++ 10 ∷ r) ≡ fault 1
+unfolding seasonOf
+first-many d r e c q h = rw (outer-front d r e listsWord, q, lt-leb c 1000 h)
+
+pub first-unended : (d : List ℕ) → firstLine d ≡ d → seasonOf d ≡ fault 1
+unfolding seasonOf outerLine
+first-unended d e = rw (e, le-ltb (length d) (length d) (omega arith))
+
+-- after the first line, which promises c lists more than the good ones ps
+module _ (d : List ℕ) (e : firstLine d ≡ d) (ps : List (List ℕ × List ℕ)) (g : Good ps) (c : ℕ) (q : wordNumber listsWord d ≡ Only (length ps + c))
+    (h : length ps + c ≤ 1000) where
+  pub season-going : (r : List ℕ) → seasonOf (d ++ 10 ∷ textOf ps r) ≡ listsFrom c (2 + length ps) (fates ps []) r
+  season-going r = stream-lists d (textOf ps r) e (length ps + c) q h ∙ stream-all ps g c 2 [] r
+
+-- with no list left: the outcome is what the steps gave; or bytes stand after the last list, "the next"
+module _ (d : List ℕ) (e : firstLine d ≡ d) (ps : List (List ℕ × List ℕ)) (g : Good ps) (q : wordNumber listsWord d ≡ Only (length ps))
+    (h : length ps ≤ 1000) where
+  none-left : length ps ≡ length ps + 0
+  none-left = omega arith
+
+  pub season-whole : seasonOf (d ++ 10 ∷ textOf ps []) ≡ lists (fates ps [])
+  season-whole = season-going d e ps g 0 (q ∙ ap Only none-left) (omega arith) [] ∙ stream-end (2 + length ps) (fates ps [])
+
+  pub season-more : (b : ℕ) (r : List ℕ) → seasonOf (d ++ 10 ∷ textOf ps (b ∷ r)) ≡ fault (2 + length ps)
+  season-more b r = season-going d e ps g 0 (q ∙ ap Only none-left) (omega arith) (b ∷ r) ∙ stream-more (2 + length ps) b (fates ps []) r
+
+-- with a list left: its outer line is bad, or promises more bytes than there are ("a cut list has its own"), or is not ended
+module _ (d : List ℕ) (e : firstLine d ≡ d) (ps : List (List ℕ × List ℕ)) (g : Good ps) (c : ℕ) (q : wordNumber listsWord d ≡ Only (length ps + suc c))
+    (h : length ps + suc c ≤ 1000) (x : List ℕ) (z : firstLine x ≡ x) where
+  pub season-bad : (r : List ℕ) → wordNumber bytesWord x ≡ Other → seasonOf (d ++ 10 ∷ textOf ps (x ++ 10 ∷ r)) ≡ fault (2 + length ps)
+  season-bad r w = season-going d e ps g (suc c) q h (x ++ 10 ∷ r) ∙ stream-bad x r z c (2 + length ps) (fates ps []) w
+
+  pub season-cut : (b : ℕ) (r : List ℕ) → wordNumber bytesWord x ≡ Only b → length r < b
+      → seasonOf (d ++ 10 ∷ textOf ps (x ++ 10 ∷ r)) ≡ fault (2 + length ps)
+  season-cut b r w k = season-going d e ps g (suc c) q h (x ++ 10 ∷ r) ∙ stream-cut x r z c (2 + length ps) b (fates ps []) w k
+
+  pub season-unended : seasonOf (d ++ 10 ∷ textOf ps x) ≡ fault (2 + length ps)
+  season-unended = season-going d e ps g (suc c) q h x ∙ stream-unended x z c (2 + length ps) (fates ps [])
+
+-- ---- the tally, one list after the other
+
+-- `add` for each list, from the tally t on
+abbrev pub stepped : List (List ℕ × List ℕ) → Tally → Tally
+stepped [] t = t
+stepped (p ∷ ps) t = stepped ps (added t (fateOf (p .1)))
+
+stepped-from : (ps : List (List ℕ × List ℕ)) (seen : List Fate) → Plains seen → length ps + length seen ≤ 1000
+    → stepped ps (tallyOf seen) ≡ tallyOf (fates ps seen)
+stepped-from [] seen n h = refl
+stepped-from (p ∷ ps) seen n h =
+    ap (stepped ps) (tally-more (fateOf (p .1)) seen (fate-plain (p .1)) n (omega arith))
+    ∙ stepped-from ps (fateOf (p .1) ∷ seen) (fate-plain (p .1), n) (omega arith)
+
+-- The steps, one after the other, give what the call over the whole text gives: the text's tally is that of `begin` and an `add` for each list.
+pub season-stepped : (d : List ℕ) → firstLine d ≡ d → (ps : List (List ℕ × List ℕ)) → Good ps → wordNumber listsWord d ≡ Only (length ps) → length ps ≤ 1000
+    → talliedOf (seasonOf (d ++ 10 ∷ textOf ps [])) ≡ record { line = 0; tally = stepped ps (tallyOf []) }
+season-stepped d e ps g q h =
+    ap talliedOf (season-whole d e ps g q h)
+    ∙ sym (ap (λ (t : Tally). record { line = 0; tally = t }) (stepped-from ps [] tt (omega arith)))
+
+-- ---- the figures of a text
+
+fates-plain : (ps : List (List ℕ × List ℕ)) (seen : List Fate) → Plains seen → Plains (fates ps seen)
+fates-plain [] seen n = n
+fates-plain (p ∷ ps) seen n = fates-plain ps (fateOf (p .1) ∷ seen) (fate-plain (p .1), n)
+
+fates-length : (ps : List (List ℕ × List ℕ)) (seen : List Fate) → length (fates ps seen) ≡ length ps + length seen
+fates-length [] seen = refl
+fates-length (p ∷ ps) seen = omega (arith, fates-length ps (fateOf (p .1) ∷ seen))
+
+-- the counts by number add up, with the answered lists, to C
+pub season-adds-up : (ps : List (List ℕ × List ℕ)) → tallyOf (fates ps []) .answered + sum (tallyOf (fates ps []) .refused) ≡ length ps
+season-adds-up ps = adds-up (fates ps []) (fates-plain ps [] tt) ∙ fates-length ps [] ∙ (let e : length ps + 0 ≡ length ps = omega arith in e)
+
+-- no figure of it is capped
+pub season-is-shown : (ps : List (List ℕ × List ℕ)) → length ps ≤ 1000 → Shown (fates ps [])
+season-is-shown ps h = season-shown (fates ps []) (fates-plain ps [] tt) (omega (arith, fates-length ps []))

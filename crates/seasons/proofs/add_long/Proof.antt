@@ -1,22 +1,23 @@
+-- `seasons::add_long` meets its contract. Assumes nothing.
+use Prim.Native.Nat.{ℕ}
+use mathlib.Core.Path.{sym, ap, _∙_}
+use Rattle.tallies.specs.Season.{added}
+use Rattle.tallies.specs.declared.Fate.the-variants.{Refused}
+use Rattle.seasons.proofs.Fates.{long-fate}
 use borrow.Author.Needs.{needs}
 use Rattle.seasons.proofs.add_long.Statement.{statement}
 use Rattle.seasons.proofs.add_long.Tie as tie
-use Rattle.seasons.proofs.add_long.Reads as reads
-use Rattle.seasons.proofs.add_long.Lts as lts
-use Rattle.refusals.proofs.number.Reads as number-reads
-use Rattle.tallies.proofs.with.Reads as with-reads
 
--- src/lib.rt:75:9
 number-requires : tie.Need-number-requires
 number-requires c κs = search needs
 
--- src/lib.rt:76:5
 with-requires : tie.Need-with-requires
 with-requires c κs = search needs
 
--- src/lib.rt:72:1
 returns : tie.Need-returns
-returns c = ?
+returns c = λ s h.
+    let t = c .before .before .args .t in
+    c .with .ensures ∙ ap (λ (n : ℕ). added t (Refused n)) (c .before .number .ensures) ∙ ap (added t) (sym (long-fate s h))
 
 pub add-long-spec : {M : Type 1} → statement M
 add-long-spec = tie.close (tie.spec number-requires with-requires returns)
