@@ -199,7 +199,7 @@ fates-plain [] seen n = n
 fates-plain (p ∷ ps) seen n = fates-plain ps (fateOf (p .1) ∷ seen) (fate-plain (p .1), n)
 
 fates-length : (ps : List (List ℕ × List ℕ)) (seen : List Fate) → length (fates ps seen) ≡ length ps + length seen
-fates-length [] seen = refl
+fates-length [] seen = omega arith
 fates-length (p ∷ ps) seen = omega (arith, fates-length ps (fateOf (p .1) ∷ seen))
 
 -- the counts by number add up, with the answered lists, to C
