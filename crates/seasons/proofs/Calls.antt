@@ -1,18 +1,14 @@
--- The call over a whole text; one report for each text; and the steps, one after the other.
+-- The call over a whole text; and one report for each text. Assumes nothing.
 use Prim.Native.Nat.{ℕ, _+_, _≤_, _<_}
-use mathlib.Core.Path.{_≡_, refl, sym, ap, subst, _∙_}
-use mathlib.Core.List.{List, [], _∷_}
-use mathlib.Core.Bool.{Bool}
+use mathlib.Core.Path.{_≡_, refl, sym, ap, _∙_}
+use mathlib.Core.List.{List}
 use native.Mathlib.Omega.{arith}
 use borrow.Author.Tests.{le-leb, lt-leb}
 use lib.ListN.{length}
-use lib.Dec.{leb}
 use Rattle.lines.specs.Numeral.{numeral, oneLine, Put}
 use Rattle.lines.proofs.Writing.{one-length}
-use Rattle.tallies.specs.Season.{tallyOf}
 use Rattle.tallies.specs.Report.{reportText}
 use Rattle.tallies.specs.Promise.{answerOf, leftOf, ReportPromise}
-use Rattle.tallies.specs.declared.Tally.{Tally}
 use Rattle.tallies.specs.declared.Written.{Written}
 use Rattle.tallies.specs.declared.Written.the-variants.{Length, Full}
 use Rattle.seasons.specs.Outer.{Outcome, lists, fault, seasonOf}

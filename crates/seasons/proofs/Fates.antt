@@ -9,7 +9,7 @@ use types.Run.{OneOf, miss}
 use denote.Enum.Declared.{tagOf}
 use borrow.Author.Tests.{le-leb, lt-leb, leb-true}
 use lib.ListN.{length, take}
-use lib.Dec.{leb, ltb}
+use lib.Dec.{ltb}
 use Rattle.refusals.specs.Table as table
 use Rattle.refusals.specs.declared.Refusal.{Refusal}
 use Rattle.refusals.specs.declared.Refusal.the-variants as refusal
@@ -40,9 +40,8 @@ use Rattle.lists.specs.declared.Reading.the-variants.{Read, Refused as refused}
 use Rattle.lists.proofs.ReadSound.{read-sound}
 use Rattle.lists.proofs.Fold.{Bounded, read-up-to-few}
 use Rattle.tallies.specs.Season.{Plain}
-use Rattle.tallies.specs.declared.Fate.{Fate}
 use Rattle.tallies.specs.declared.Fate.the-variants.{Answered, Refused}
-use Rattle.seasons.specs.Fates.{budget, walkFate, listFate, readFate, fateOf}
+use Rattle.seasons.specs.Fates.{budget, listFate, readFate, fateOf}
 
 -- every number of the table is below 64
 number-small : (r : Refusal) → table.numberOf r < 64

@@ -1,10 +1,10 @@
--- Outer lines and the lists between them.
+-- Outer lines and the lists between them. Assumes nothing.
 use Prim.Native.Nat.{ℕ, zero, suc, _+_, _-_, _≤_, _<_}
-use mathlib.Core.Path.{_≡_, refl, sym, ap, subst, _∙_}
+use mathlib.Core.Path.{_≡_, refl, sym, ap, _∙_}
 use mathlib.Core.List.{List, [], _∷_}
 use mathlib.Core.Bool.{Bool, true, false, cond}
 use native.Mathlib.Omega.{arith}
-use borrow.Author.Tests.{lt-ltb, le-ltb, le-leb, lt-leb, eq-eqb, ne-eqb, ltb-true, ltb-false, leb-true}
+use borrow.Author.Tests.{lt-ltb, le-ltb, le-leb, lt-leb, eq-eqb, ne-eqb, ltb-true, leb-true}
 use lib.ListN.{length, take, drop, length-drop}
 use lib.Seq.{drop-drop}
 use lib.Dec.{leb, ltb, eqb}
@@ -14,11 +14,10 @@ use Rattle.lines.specs.declared.Alone.{Alone}
 use Rattle.lines.specs.declared.Alone.the-variants.{Only, Other}
 use Rattle.tallies.specs.declared.Fate.{Fate}
 use Rattle.tallies.specs.declared.Tally.{Tally}
-use Rattle.tallies.specs.Season.{Plain, Plains, tallyOf, added}
+use Rattle.tallies.specs.Season.{Plains, tallyOf, added}
 use Rattle.tallies.proofs.Tallies.{tally-more}
 use Rattle.lines.proofs.Basics.{rest as rest-of}
 use Rattle.seasons.specs.Promise.{talliedOf}
-use Rattle.seasons.specs.declared.Tallied.{Tallied}
 use Rattle.seasons.specs.Fates.{fateOf}
 use Rattle.seasons.proofs.Fates.{fate-plain}
 use Rattle.seasons.specs.Outer.{listsWord, bytesWord, wordNumber, outerLine, afterLine, pieceBy, pieceOf, Outcome, lists, fault, passed, listsFrom, seasonBy, seasonOf}
@@ -101,6 +100,7 @@ piece-fits r a b = go (outerLine bytesWord r) refl
         let n : v ≡ b = cc in
         omega (arith, leb-true v (length r - (length (firstLine r) + 1)) e)
     by v h false e q = let z : _≡_ {A = ℕ} 0 1 = cc in let f : ⊥ = omega arith in absurd f
+
     go : (x : Alone) → outerLine bytesWord r ≡ x → pieceBy x r ≡ Part a b → a + b ≤ length r
     go Other e q = let z : _≡_ {A = ℕ} 0 1 = cc in let f : ⊥ = omega arith in absurd f
     go (Only v) e q = by v (outer-ended bytesWord r v e) (leb v (length r - (length (firstLine r) + 1))) refl q
@@ -159,10 +159,10 @@ module _ (s : List ℕ) (o : Outcome) (t : Tally) (from left line : ℕ) (g : Go
             inside = omega (arith, going-fits);
             tallied = v ∙ ap (λ (x : Tally). added x f) (g .tallied) ∙ tally-more f (g .seen) z (g .plain) (omega (arith, g .few));
             same =
-              ap (λ (x : Fate). listsFrom (left - 1) (line + 1) (x ∷ g .seen) (drop e′ s)) (sym k)
-              ∙ ap (λ (d : List ℕ). listsFrom (left - 1) (line + 1) (fateOf (take b (drop a (drop from s))) ∷ g .seen) d)
-              (ap (λ (m : ℕ). drop m s) (sym j) ∙ sym (drop-drop (a + b) from s))
-              ∙ w;
+                ap (λ (x : Fate). listsFrom (left - 1) (line + 1) (x ∷ g .seen) (drop e′ s)) (sym k)
+                ∙ ap (λ (d : List ℕ). listsFrom (left - 1) (line + 1) (fateOf (take b (drop a (drop from s))) ∷ g .seen) d)
+                (ap (λ (m : ℕ). drop m s) (sym j) ∙ sym (drop-drop (a + b) from s))
+                ∙ w;
           }
 
   module _ (h : left ≡ 0) where
@@ -217,6 +217,7 @@ season-fault s j = go (outerLine listsWord s)
     by : (n : ℕ) (b : Bool) → leb n 1000 ≡ b → cond b (listsFrom n 2 [] (drop (afterLine s) s)) (fault 1) ≡ fault j → (1 ≤ j) × (j ≤ 1002)
     by n true e q = let w = fault-bounds n 2 [] (drop (afterLine s) s) j q in (omega arith, omega (arith, leb-true n 1000 e))
     by n false e q = let z : _≡_ {A = ℕ} 1 j = cc in (omega arith, omega arith)
+
     go : (x : Alone) → seasonBy x s ≡ fault j → (1 ≤ j) × (j ≤ 1002)
     go Other q = let z : _≡_ {A = ℕ} 1 j = cc in (omega arith, omega arith)
     go (Only n) q = by n (leb n 1000) refl q

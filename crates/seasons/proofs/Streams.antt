@@ -3,18 +3,16 @@
 -- meet is the call's (`first-bad` to `season-unended`).
 --
 -- d is an outer line without its line feed (it has none: `firstLine d ≡ d`), x the bytes of its list, r what comes after. Assumes nothing.
-use Prim.Native.Nat.{ℕ, zero, suc, _+_, _-_, _≤_, _<_}
-use mathlib.Core.Path.{_≡_, refl, sym, ap, subst, _∙_}
+use Prim.Native.Nat.{ℕ, suc, _+_, _-_, _≤_, _<_}
+use mathlib.Core.Path.{_≡_, refl, sym, ap, _∙_}
 use mathlib.Core.List.{List, [], _∷_, _++_}
 use mathlib.Core.Bool.{Bool, true, false, cond}
 use native.Mathlib.Omega.{arith}
-use native.Mathlib.Numerals.{add-one}
-use borrow.Author.Tests.{lt-ltb, le-ltb, le-leb, lt-leb, eq-eqb, ne-eqb}
+use borrow.Author.Tests.{lt-ltb, le-ltb, le-leb, lt-leb, ne-eqb}
 use lib.ListN.{length, take, drop, length-append}
 use lib.Seq.{take-at, drop-at, drop-drop}
-use lib.Dec.{leb, ltb, eqb}
+use lib.Dec.{eqb}
 use Rattle.lines.specs.Text.{firstLine}
-use Rattle.lines.specs.declared.Alone.{Alone}
 use Rattle.lines.specs.declared.Alone.the-variants.{Only, Other}
 use Rattle.tallies.specs.Season.{Plains, sum, tallyOf, added}
 use Rattle.tallies.specs.declared.Fate.{Fate}
@@ -22,11 +20,10 @@ use Rattle.tallies.specs.declared.Tally.{Tally}
 use Rattle.tallies.proofs.Tallies.{tally-more, adds-up, Shown, season-shown}
 use Rattle.seasons.specs.Fates.{fateOf}
 use Rattle.seasons.specs.Promise.{talliedOf}
-use Rattle.seasons.specs.declared.Tallied.{Tallied}
 use Rattle.seasons.proofs.Fates.{fate-plain}
-use Rattle.seasons.specs.Outer.{listsWord, bytesWord, wordNumber, outerLine, afterLine, pieceBy, pieceOf, Outcome, lists, fault, passed, listsFrom, seasonBy, seasonOf}
+use Rattle.seasons.specs.Outer.{listsWord, bytesWord, wordNumber, outerLine, afterLine, pieceOf, lists, fault, passed, listsFrom, seasonOf}
 use Rattle.seasons.specs.declared.Piece.{Piece}
-use Rattle.seasons.specs.declared.Piece.the-variants.{Part, Bad}
+use Rattle.seasons.specs.declared.Piece.the-variants.{Part}
 
 line-front : (d r : List ℕ) → firstLine d ≡ d → firstLine (d ++ 10 ∷ r) ≡ d
 line-front [] r e = refl

@@ -1,13 +1,19 @@
--- A season's text (Ask 11): a line "lists C", and for each list a line "bytes B" and B bytes of clash text. Outer lines are counted alone.
+-- A season's text (document 02, Ask 11): "a line "lists C", then for each a line "bytes B" and B bytes of clash text". "Refusals: 10 for a bad outer line, C
+-- over 1,000, a list cut short or bytes after the last list, with the outer line's number (outer lines counted alone; a cut list has its own, bytes after
+-- the last list the next)".
 --
---   outerLine w s  : the number on the outer line at the front of s: the line is ended, begins with the word w, and then has one number alone
+--   listsWord, bytesWord : "lists " and "bytes "
+--   wordNumber w l : the number on the line l: it begins with the word w, and then has one number alone
+--   outerLine w s  : the number on the outer line at the front of s, where that is ended
 --   afterLine s    : where the bytes after that line start
---   pieceOf s      : where the list at the front of s starts, after its own outer line, and how many bytes it has, where all are there
+--   pieceBy x s    : where the list at the front of s starts and how many bytes it has, where its outer line has the number x and all of them are there
+--   pieceOf s      : the same by its outer line
 --   Outcome        : what became of each list, the last one's first; or the outer line at fault
---   listsFrom c k seen s : c lists more in s, of which the first has outer line k, after those that became `seen`
---   seasonOf s     : the whole text: at most 1,000 lists, and nothing after the last
+--   passed p k seen s next : the list p at the front of s, whose outer line is line k, and then the next ones
+--   listsFrom c k seen s : c lists more in s, of which the first has outer line k, after those that became `seen`; and nothing after the last
+--   seasonOf s     : the whole text: at most 1,000 lists
 --
--- A fault names the outer line: of a list that is cut short its own, of bytes after the last list the next. Assumes nothing.
+-- A missing outer line is at fault by the number that it would have had: the text that is left is none. Assumes nothing.
 use Prim.Native.Nat.{ℕ, zero, suc, _+_, _-_}
 use mathlib.Core.List.{List, [], _∷_}
 use mathlib.Core.Bool.{cond}

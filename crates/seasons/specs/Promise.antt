@@ -1,10 +1,11 @@
--- What a season's call promises.
+-- What a season's call promises: its report (crate tallies, specs/Report.antt), or the one line of its fault, "which is then all that is printed".
 --
+--   faultWord     : "refused 10 line "
 --   talliedOf o   : an outcome as the code has it: the outer line at fault (0: none) and the tally
 --   outcomeText o : what is printed: the report, or "refused 10 line L" alone
 --   SeasonPromise s old a new : the season's text s, with the bytes old lent, answers a and leaves the bytes new
 --
--- Assumes nothing.
+-- One report for each text: `season-unique` of proofs/Calls.antt. Assumes nothing.
 use Prim.Native.Nat.{ℕ}
 use mathlib.Core.Path.{_≡_}
 use mathlib.Core.List.{List, [], _∷_}

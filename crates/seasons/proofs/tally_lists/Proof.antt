@@ -3,7 +3,7 @@ use Prim.Native.Nat.{ℕ}
 use mathlib.Core.Path.{refl, _∙_}
 use mathlib.Core.List.{List, []}
 use native.Mathlib.Omega.{arith}
-use lib.ListN.{length, drop}
+use lib.ListN.{drop}
 use Rattle.seasons.specs.Outer.{Outcome, listsFrom}
 use Rattle.seasons.proofs.Outers.{Going, going-begin, going-bad, going-fits, going-step, going-more, going-end}
 use borrow.Author.Needs.{needs}

@@ -1,7 +1,5 @@
 -- `seasons::walked` meets its contract. Assumes nothing.
-use Prim.Native.Nat.{ℕ}
 use mathlib.Core.Path.{subst}
-use mathlib.Core.List.{List}
 use lib.ListN.{replicate}
 use Rattle.bounds.specs.Names.{mycielskian}
 use Rattle.zykov.specs.Walk.{boundedWalk}
