@@ -10,13 +10,13 @@ use native.Mathlib.Omega.{arith}
 use lib.Dec.{T, eqb, eqb→eq}
 use Rattle.refusals.specs.Table.{Beside, nothing, aRow, theNodes, aLine, aSpot, anIndex, entry, numberOf, accepted, with, told, toldAt}
 use Rattle.refusals.specs.declared.Refusal.{Refusal}
-use Rattle.refusals.specs.declared.Refusal.the-variants.{Many, Stray, Itself, OneSided, Short, Budget, Line, Headless, Second, Size, Vertex, Loop, Count, Room, Long, Full, Repeat, Digit, Space, Unended, SheetLine, Member, Order, Twice, Clash, Ends, Missing, Extra, Colours}
+use Rattle.refusals.specs.declared.Refusal.the-variants.{Many, Stray, Itself, OneSided, Short, Budget, Line, Headless, Second, Size, Vertex, Loop, Count, Room, Long, Full, Repeat, Digit, Space, Unended, SheetLine, Member, Order, Twice, Clash, Ends, Missing, Extra, Colours, Time, Uneven}
 
 -- every refusal, in the table's order
 abbrev pub all : List Refusal
 all =
     Many ∷ Stray ∷ Itself ∷ OneSided ∷ Short ∷ Budget ∷ Line ∷ Headless ∷ Second ∷ Size ∷ Vertex ∷ Loop ∷ Count ∷ Room ∷ Long ∷ Full
-    ∷ Repeat ∷ Digit ∷ Space ∷ Unended ∷ SheetLine ∷ Member ∷ Order ∷ Twice ∷ Clash ∷ Ends ∷ Missing ∷ Extra ∷ Colours ∷ []
+    ∷ Repeat ∷ Digit ∷ Space ∷ Unended ∷ SheetLine ∷ Member ∷ Order ∷ Twice ∷ Clash ∷ Ends ∷ Missing ∷ Extra ∷ Colours ∷ Time ∷ Uneven ∷ []
 
 -- who of these has the number n
 abbrev whose : ℕ → List Refusal → Option Refusal
@@ -54,6 +54,8 @@ back Ends = refl
 back Missing = refl
 back Extra = refl
 back Colours = refl
+back Time = refl
+back Uneven = refl
 
 pub number-unique : (r q : Refusal) → numberOf r ≡ numberOf q → r ≡ q
 number-unique r q e = let h : some r ≡ some q = sym (back r) ∙ ap (λ (n : ℕ). whose n all) e ∙ back q in cc

@@ -14,7 +14,7 @@
 use mathlib.Core.Bool.{Bool, true, false}
 use Prim.Native.Nat.{ℕ}
 use Rattle.refusals.specs.declared.Refusal.{Refusal}
-use Rattle.refusals.specs.declared.Refusal.the-variants.{Many, Stray, Itself, OneSided, Short, Budget, Line, Headless, Second, Size, Vertex, Loop, Count, Room, Long, Full, Repeat, Digit, Space, Unended, SheetLine, Member, Order, Twice, Clash, Ends, Missing, Extra, Colours}
+use Rattle.refusals.specs.declared.Refusal.the-variants.{Many, Stray, Itself, OneSided, Short, Budget, Line, Headless, Second, Size, Vertex, Loop, Count, Room, Long, Full, Repeat, Digit, Space, Unended, SheetLine, Member, Order, Twice, Clash, Ends, Missing, Extra, Colours, Time, Uneven}
 
 pub data Beside : Type 0 where
   nothing : Beside
@@ -62,6 +62,8 @@ entry Ends = row 35 aLine
 entry Missing = row 36 aLine
 entry Extra = row 37 aLine
 entry Colours = row 38 anIndex
+entry Time = row 40 anIndex
+entry Uneven = row 41 nothing
 
 abbrev pub numberOf : Refusal → ℕ
 numberOf r = entry r .number

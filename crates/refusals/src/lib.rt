@@ -33,6 +33,8 @@ pub enum Refusal {
     Missing,
     Extra,
     Colours,
+    Time,
+    Uneven,
 }
 
 // The number of a refusal.
@@ -69,6 +71,8 @@ pub fn number(r: Refusal) -> usize
         Refusal::Missing => 36,
         Refusal::Extra => 37,
         Refusal::Colours => 38,
+        Refusal::Time => 40,
+        Refusal::Uneven => 41,
     }
 }
 
@@ -106,6 +110,8 @@ pub fn line(r: Refusal, given: usize) -> usize
         Refusal::Missing => given,
         Refusal::Extra => given,
         Refusal::Colours => 0,
+        Refusal::Time => 0,
+        Refusal::Uneven => 0,
     }
 }
 
@@ -143,5 +149,7 @@ pub fn column(r: Refusal, given: usize) -> usize
         Refusal::Missing => 0,
         Refusal::Extra => 0,
         Refusal::Colours => 0,
+        Refusal::Time => 0,
+        Refusal::Uneven => 0,
     }
 }

@@ -90,6 +90,12 @@ enum-told-28 c = search needs
 enum-told-29 : tie.Need-enum-told-29
 enum-told-29 c = search needs
 
+enum-told-30 : tie.Need-enum-told-30
+enum-told-30 c = search needs
+
+enum-told-31 : tie.Need-enum-told-31
+enum-told-31 c = search needs
+
 returns : tie.Need-returns
 returns c = simp (c .enum-told .given .1)
 
@@ -177,6 +183,12 @@ returns-28 c = simp (c .enum-told28 .given .1)
 returns-29 : tie.Need-returns-29
 returns-29 c = simp (c .enum-told29 .given .1)
 
+returns-30 : tie.Need-returns-30
+returns-30 c = simp (c .enum-told30 .given .1)
+
+returns-31 : tie.Need-returns-31
+returns-31 c = simp (c .enum-told31 .given .1)
+
 pub line-spec : {M : Type 1} → statement M
 line-spec =
     tie.close
@@ -210,6 +222,8 @@ line-spec =
     enum-told-27
     enum-told-28
     enum-told-29
+    enum-told-30
+    enum-told-31
     returns
     returns-2
     returns-3
@@ -238,4 +252,6 @@ line-spec =
     returns-26
     returns-27
     returns-28
-    returns-29)
+    returns-29
+    returns-30
+    returns-31)
