@@ -61,7 +61,12 @@ module _ (starts ends : List ℕ) (n : ℕ) (timed : Timed starts ends n) where
   -- in every minute there are no more entries than groups
   most : (t : ℕ) → load starts ends n t ≤ groups 0 (groupsOf starts ends n)
   most t =
-      omega (arith, load-le starts ends n timed label (distinct ℕ-discrete [] (table label n)) proper (λ x b. distinct-new ℕ-discrete [] (table label n) (label x) (In-table label n x b)) t, many)
+      omega (
+        arith,
+        many,
+        load-le starts ends n timed label (distinct ℕ-discrete [] (table label n)) proper
+            (λ x b. distinct-new ℕ-discrete [] (table label n) (label x) (In-table label n x b)) t,
+      )
 
   -- and at the start of an entry in the last sitting there are as many
   busy : n ≢ 0 → (t : ℕ) × (t < week) × (load starts ends n t ≡ groups 0 (groupsOf starts ends n))
@@ -76,12 +81,23 @@ module _ (starts ends : List ℕ) (n : ℕ) (timed : Timed starts ends n) where
           let b : x < n = omega (arith, r .1) in (
             startOf starts x,
             omega (arith, timed .forward x b, timed .inside x b),
-            omega (arith, most (startOf starts x), all-seated starts ends n timed .full (x, label x) (has-seat starts ends n timed x b), few x (λ y c. r .2 y (omega arith)), many),
+            omega (
+              arith,
+              many,
+              most (startOf starts x),
+              all-seated starts ends n timed .full (x, label x) (has-seat starts ends n timed x b),
+              few x (λ y c. r .2 y (omega arith)),
+            ),
           )
         where
           few : (x : ℕ) → ((y : ℕ) → y < n → label y ≤ label x) → cardinality ℕ-discrete n label ≤ suc (label x)
           few x low =
-              omega (arith, noDup-le (distinct ℕ-discrete [] (table label n)) (table (λ i. i) (suc (label x))) (distinct-noDup ℕ-discrete [] (table label n) tt) sub, length-table (λ i. i) (suc (label x)))
+              omega (
+                arith,
+                noDup-le (distinct ℕ-discrete [] (table label n)) (table (λ i. i) (suc (label x)))
+                    (distinct-noDup ℕ-discrete [] (table label n) tt) sub,
+                length-table (λ i. i) (suc (label x)),
+              )
             where
               sub : (z : ℕ) → In z (distinct ℕ-discrete [] (table label n)) → In z (table (λ i. i) (suc (label x)))
               sub z i = by (distinct-cases ℕ-discrete [] (table label n) z i)

@@ -1,14 +1,14 @@
 -- THE DEMANDS of document 02, Ask 12. Read this file first.
 --
--- `PromisedUpTo most starts ends before a after` is what the call over times of up to `most` entries promises (specs/Promise.antt): starts, ends and the
--- colour bytes `before` are lent, a is the answer and `after` are the bytes afterwards. `Promised`, which its contract names, is the same at 64. Each theorem
--- says what follows from it, for all slices and buffers. Then the same of the call that writes clash rows (specs/Rows.antt). Assumes nothing.
+-- `PromisedUpTo most starts ends before a after` is what the call over times of up to `most` entries promises (specs/Promise.antt): starts, ends and
+-- the colour bytes `before` are lent, a is the answer and `after` are the bytes afterwards. `Promised`, which its contract names, is the same at 64.
+-- Each theorem says what follows from it, for all slices and buffers. Then the same of the call that writes clash rows (specs/Rows.antt), and of
+-- both. Assumes nothing.
 use mathlib.Core.Path.{_≡_, sym, subst}
 use mathlib.Core.Logic.{_≢_}
 use mathlib.Core.Bool.{Bool}
 use mathlib.Core.List.{List}
 use Prim.Native.Nat.{ℕ, _≤_, _<_}
-use native.Mathlib.Omega.{arith}
 use lib.Dec.{T}
 use lib.ListN.{length, take, drop}
 use Rattle.refusals.specs.Table.{accepted}
@@ -62,8 +62,8 @@ chromatic-agree n p q e k c = record {
 
 module _ (most : ℕ) (starts ends before : List ℕ) where
   -- One answer, and one state of the lent bytes.
-  pub one-answer : (a b : Answer) (after after′ : List ℕ) → PromisedUpTo most starts ends before a after → PromisedUpTo most starts ends before b after′
-      → (a ≡ b) × (after ≡ after′)
+  pub one-answer : (a b : Answer) (after after′ : List ℕ) → PromisedUpTo most starts ends before a after
+      → PromisedUpTo most starts ends before b after′ → (a ≡ b) × (after ≡ after′)
   one-answer = laws.promised-unique most starts ends before
 
   -- "Refusals: 1 for either slice, 41 .., then 40 .., then 5": the answer is the one that this order gives (`answerUpTo`), or accepted.
@@ -128,7 +128,8 @@ module _ (most : ℕ) (starts ends before : List ℕ) where
   pub answered-rows : (a : Listed) (after : List ℕ) → RowsPromisedUpTo most starts ends before a after → a ≡ rowsAnswerUpTo most starts ends before
   answered-rows a after p = sym (rows.rows-answer most starts ends before a after p)
 
-  pub refused-kept-rows : (a : Listed) (after : List ℕ) → RowsPromisedUpTo most starts ends before a after → rowNumbers a .number ≢ accepted → after ≡ before
+  pub refused-kept-rows : (a : Listed) (after : List ℕ) → RowsPromisedUpTo most starts ends before a after → rowNumbers a .number ≢ accepted
+      → after ≡ before
   refused-kept-rows = rows.rows-kept most starts ends before
 
   module _ (n : ℕ) (after : List ℕ) (p : RowsPromisedUpTo most starts ends before (Entries n) after) where
@@ -147,7 +148,8 @@ module _ (most : ℕ) (starts ends before : List ℕ) where
 
 -- ---- of both
 
--- "it equals the walk's k on the same clashes where that isn't refused": k of the first call, and the chromatic number of the rows that the second wrote.
+-- "it equals the walk's k on the same clashes where that isn't refused": the first call's k is the chromatic number of the rows that the second
+-- wrote.
 module _ (most : ℕ) (starts ends before : List ℕ) (k : ℕ) (after : List ℕ) (p : PromisedUpTo most starts ends before (Accepted k) after) where
   pub walk-same : (lent written : List ℕ) (n : ℕ) → RowsPromisedUpTo most starts ends lent (Entries n) written → (j : ℕ)
       → Chromatic (length starts) (matrix (take (length starts) written)) j → k ≡ j

@@ -29,7 +29,8 @@ alike a (x ∷ l) t (suc i) b = alike a l (and-r (eqb x a) (every (λ x. eqb x a
 -- labels that are the same have the same division
 table-same : (n : ℕ) (f g : ℕ → ℕ) → ((x : ℕ) → x < n → f x ≡ g x) → table f n ≡ table g n
 table-same zero f g h = refl
-table-same (suc n) f g h = ap₂ (λ (x : ℕ) (l : List ℕ). x ∷ l) (h 0 (suc-le-suc zero-le)) (table-same n (λ i. f (suc i)) (λ i. g (suc i)) (λ x b. h (suc x) (suc-le-suc b)))
+table-same (suc n) f g h =
+    ap₂ (λ (x : ℕ) (l : List ℕ). x ∷ l) (h 0 (suc-le-suc zero-le)) (table-same n (λ i. f (suc i)) (λ i. g (suc i)) (λ x b. h (suc x) (suc-le-suc b)))
 
 pub division-agree : (n : ℕ) (f g : ℕ → ℕ) → ((x : ℕ) → x < n → f x ≡ g x) → division ℕ-discrete n f ≡ division ℕ-discrete n g
 division-agree n f g h = ap (number ℕ-discrete []) (table-same n f g h)
@@ -99,7 +100,8 @@ module _ {cap : ℕ} (n : ℕ) (sits : List ℕ) (labels : LabelsAt cap n sits) 
         })
         go (inr (y, b, q)) =
             let is : getD names v zero ≡ getD colours y zero = ap (λ (w : ℕ). getD names w zero) (sym q) ∙ g .known y b in
-            subst Next (sym (ap (λ (b : Bool). cond b (getD names v zero) k) (lt-ltb (getD names v zero) cap (omega (arith, below y b, g .few, labels .few)))))
+            let has-one : getD names v zero < cap = omega (arith, below y b, g .few, labels .few) in
+            subst Next (sym (ap (λ (b : Bool). cond b (getD names v zero) k) (lt-ltb (getD names v zero) cap has-one)))
             (record {
               low = omega (arith, below y b);
               same = λ x l r. sym (g .known x l) ∙ ap (λ (w : ℕ). getD names w zero) r;
@@ -154,7 +156,8 @@ module _ {cap : ℕ} (n : ℕ) (sits : List ℕ) (labels : LabelsAt cap n sits) 
       }
         where
           known : (x : ℕ) → (x < i) ⊎ (x ≡ i) → getD (set names v c) (getD sits x zero) zero ≡ getD (set colours i c) x zero
-          known x (inr e) = ap (λ (z : ℕ). getD (set names v c) (getD sits z zero) zero) e ∙ own ∙ sym now ∙ ap (λ (z : ℕ). getD (set colours i c) z zero) (sym e)
+          known x (inr e) =
+              ap (λ (z : ℕ). getD (set names v c) (getD sits z zero) zero) e ∙ own ∙ sym now ∙ ap (λ (z : ℕ). getD (set colours i c) z zero) (sym e)
           known x (inl b) = go (ℕ-discrete (getD sits x zero) v)
             where
               go : Dec (getD sits x zero ≡ v) → getD (set names v c) (getD sits x zero) zero ≡ getD (set colours i c) x zero
@@ -165,11 +168,13 @@ module _ {cap : ℕ} (n : ℕ) (sits : List ℕ) (labels : LabelsAt cap n sits) 
           named w b (yes e) = inr (i, omega arith, sym e)
           named w b (no q) = go (g .named w b)
             where
-              go : (getD names w zero ≡ cap) ⊎ ((x : ℕ) × (x < i) × (getD sits x zero ≡ w)) → (getD (set names v c) w zero ≡ cap) ⊎ ((x : ℕ) × (x < i + 1) × (getD sits x zero ≡ w))
+              go : (getD names w zero ≡ cap) ⊎ ((x : ℕ) × (x < i) × (getD sits x zero ≡ w))
+                  → (getD (set names v c) w zero ≡ cap) ⊎ ((x : ℕ) × (x < i + 1) × (getD sits x zero ≡ w))
               go (inl e) = inl (getD-set-other names v w c zero q ∙ e)
               go (inr (x, l, r)) = inr (x, omega arith, r)
 
-          apart : (x y : ℕ) → (x < i) ⊎ (x ≡ i) → (y < i) ⊎ (y ≡ i) → getD (set colours i c) x zero ≡ getD (set colours i c) y zero → getD sits x zero ≡ getD sits y zero
+          apart : (x y : ℕ) → (x < i) ⊎ (x ≡ i) → (y < i) ⊎ (y ≡ i) → getD (set colours i c) x zero ≡ getD (set colours i c) y zero
+              → getD sits x zero ≡ getD sits y zero
           apart x y (inl a) (inl b) e = g .apart x y a b (sym (old x a) ∙ e ∙ old y b)
           apart x y (inl a) (inr b) e =
               nx .only x a (sym (old x a) ∙ e ∙ ap (λ (z : ℕ). getD (set colours i c) z zero) b ∙ now) ∙ ap (λ (z : ℕ). getD sits z zero) (sym b)
@@ -178,18 +183,28 @@ module _ {cap : ℕ} (n : ℕ) (sits : List ℕ) (labels : LabelsAt cap n sits) 
           apart x y (inr a) (inr b) e = ap (λ (z : ℕ). getD sits z zero) (a ∙ sym b)
 
       pub again-given : (w m : ℕ) → w ≡ v → m ≡ moreOf k c → Named (set colours i c) (set names w c) m (i + 1)
-      again-given w m a e = subst (λ (z : ℕ). Named (set colours i c) (set names z c) m (i + 1)) (sym a) (subst (λ (z : ℕ). Named (set colours i c) (set names v c) z (i + 1)) (sym e) named-again)
+      again-given w m a e =
+          subst (λ (z : ℕ). Named (set colours i c) (set names z c) m (i + 1)) (sym a)
+          (subst (λ (z : ℕ). Named (set colours i c) (set names v c) z (i + 1)) (sym e) named-again)
 
-  pub named-end : (colours names : List ℕ) (k i : ℕ) → Named colours names k i → i ≡ n → (take n colours ≡ division ℕ-discrete n (at sits)) × (k ≡ groups 0 (take n colours))
+  pub named-end : (colours names : List ℕ) (k i : ℕ) → Named colours names k i → i ≡ n
+      → (take n colours ≡ division ℕ-discrete n (at sits)) × (k ≡ groups 0 (take n colours))
   named-end colours names k i g e = (
-    division-only ℕ-discrete n (at sits) (take n colours) (record { numbered = subst (λ (z : ℕ). Canon 0 (take z colours)) e (g .numbered); long = length-take n colours ∙ omega (arith, g .colours-long, labels .few) })
+    division-only ℕ-discrete n (at sits) (take n colours) (record { numbered = numbered; long = long })
         (record { together = together; apart = apart }),
     sym (g .many) ∙ ap (λ (z : ℕ). groups 0 (take z colours)) e,
   )
     where
+      numbered : Canon 0 (take n colours)
+      numbered = subst (λ (z : ℕ). Canon 0 (take z colours)) e (g .numbered)
+
+      long : length (take n colours) ≡ n
+      long = length-take n colours ∙ omega (arith, g .colours-long, labels .few)
+
       together : (x y : ℕ) → x < n → y < n → at sits x ≡ at sits y → at (take n colours) x ≡ at (take n colours) y
       together x y a b q =
-          getD-take n colours x zero a ∙ sym (g .known x (omega arith)) ∙ ap (λ (z : ℕ). getD names z zero) q ∙ g .known y (omega arith) ∙ sym (getD-take n colours y zero b)
+          getD-take n colours x zero a ∙ sym (g .known x (omega arith)) ∙ ap (λ (z : ℕ). getD names z zero) q ∙ g .known y (omega arith)
+          ∙ sym (getD-take n colours y zero b)
 
       apart : (x y : ℕ) → x < n → y < n → at (take n colours) x ≡ at (take n colours) y → at sits x ≡ at sits y
       apart x y a b q = g .apart x y (omega arith) (omega arith) (sym (getD-take n colours x zero a) ∙ q ∙ getD-take n colours y zero b)

@@ -67,8 +67,8 @@ module _ (most : ℕ) (starts ends before : List ℕ) where
   refused-kept Short after p h = p .1
   refused-kept (Accepted k) after p h = absurd (h refl)
 
-  pub promised-unique : (a b : Answer) (after after′ : List ℕ) → PromisedUpTo most starts ends before a after → PromisedUpTo most starts ends before b after′
-      → (a ≡ b) × (after ≡ after′)
+  pub promised-unique : (a b : Answer) (after after′ : List ℕ) → PromisedUpTo most starts ends before a after
+      → PromisedUpTo most starts ends before b after′ → (a ≡ b) × (after ≡ after′)
   promised-unique a b after after′ p q =
       let e : a ≡ b = sym (promised-answer a after p) ∙ promised-answer b after′ q in
       (e, promised-lent a after p ∙ ap (lent starts ends before) e ∙ sym (promised-lent b after′ q))
@@ -80,7 +80,8 @@ module _ (most : ℕ) (starts ends before : List ℕ) where
 
   -- ---- what the code ends with
 
-  module _ (o : OpenUpTo most starts ends (length before)) (sits : List ℕ) (r : Numbered) (s : SeatsAt most starts ends sits) (m : IsNumbered n sits r) where
+  module _ (o : OpenUpTo most starts ends (length before)) (sits : List ℕ) (r : Numbered) (s : SeatsAt most starts ends sits)
+      (m : IsNumbered n sits r) where
     timed : Timed starts ends n
     timed = bounded most starts ends (o .timed) .timed
 

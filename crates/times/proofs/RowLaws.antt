@@ -53,7 +53,8 @@ with-true s i r b e h j = h j ∙ ap (λ (t : Bool). has s j || t) (sym (ap (λ 
     and-t false = refl
 
 pub with-false : (s i : ℕ) (b : Bool) → b ≡ false → IsWithWhere s i b s
-with-false s i b e j = sym (ap (λ (t : Bool). has s j || (eqb i j && t)) e ∙ ap (λ (t : Bool). has s j || t) (and-false (eqb i j)) ∙ or-false (has s j))
+with-false s i b e j =
+    sym (ap (λ (t : Bool). has s j || (eqb i j && t)) e ∙ ap (λ (t : Bool). has s j || t) (and-false (eqb i j)) ∙ or-false (has s j))
 
 module _ (starts ends : List ℕ) (x : ℕ) where
   pub row-start : IsRow starts ends x 0 0
@@ -69,15 +70,16 @@ module _ (starts ends : List ℕ) (x : ℕ) where
       go (no q) =
           ap (λ (t : Bool). has s j || (t && b)) (ne-eqb y j (λ p. q (sym p))) ∙ or-false (has s j) ∙ g j
           ∙ ap (λ (t : Bool). t && clash starts ends x j)
-          (T-ext (ltb j y) (ltb j (y + 1)) (λ t. lt→ltb j (y + 1) (omega (arith, ltb→lt j y t))) (λ t. lt→ltb j y (omega (arith, ltb→lt j (y + 1) t))))
+          (T-ext (ltb j y) (ltb j (y + 1)) (λ t. lt→ltb j (y + 1) (omega (arith, ltb→lt j y t)))
+          (λ t. lt→ltb j y (omega (arith, ltb→lt j (y + 1) t))))
 
 -- ---- all rows
 
 pub rows-start : (starts ends rows : List ℕ) → IsRows starts ends 0 rows rows
 rows-start starts ends rows = record { long = refl; rows = λ x b. absurd (not-suc-le-zero b); kept = λ x b. refl }
 
-pub rows-again : (starts ends before rows : List ℕ) (i r : ℕ) → IsRows starts ends i before rows → i < length before → IsRow starts ends i (length starts) r
-    → IsRows starts ends (i + 1) before (set rows i r)
+pub rows-again : (starts ends before rows : List ℕ) (i r : ℕ) → IsRows starts ends i before rows → i < length before
+    → IsRow starts ends i (length starts) r → IsRows starts ends (i + 1) before (set rows i r)
 rows-again starts ends before rows i r g b h = record {
   long = length-set rows i r ∙ g .long;
   rows = λ x l. go x (ℕ-discrete x i) l;
@@ -91,7 +93,8 @@ rows-again starts ends before rows i r g b h = record {
     go x (no q) l = subst (IsRow starts ends x (length starts)) (sym (getD-set-other rows i x r zero q)) (g .rows x (omega arith))
 
 -- they are one state of the lent rows
-pub rows-same : (starts ends before after after′ : List ℕ) → IsRows starts ends (length starts) before after → IsRows starts ends (length starts) before after′ → after ≡ after′
+pub rows-same : (starts ends before after after′ : List ℕ) → IsRows starts ends (length starts) before after
+    → IsRows starts ends (length starts) before after′ → after ≡ after′
 rows-same starts ends before after after′ p q = ext-getD zero after after′ (p .long ∙ sym (q .long)) (λ x b. by x (decLt x (length starts)))
   where
     by : (x : ℕ) → Dec (x < length starts) → getD after x zero ≡ getD after′ x zero
@@ -99,6 +102,6 @@ rows-same starts ends before after after′ p q = ext-getD zero after after′ (
     by x (no f) = p .kept x (omega arith) ∙ sym (q .kept x (omega arith))
 
 -- the rows are a matrix with these clashes
-pub rows-matrix : (starts ends before after : List ℕ) → IsRows starts ends (length starts) before after → (x y : ℕ) → x < length starts → y < length starts
-    → matrix after x y ≡ clash starts ends x y
+pub rows-matrix : (starts ends before after : List ℕ) → IsRows starts ends (length starts) before after
+    → (x y : ℕ) → x < length starts → y < length starts → matrix after x y ≡ clash starts ends x y
 rows-matrix starts ends before after p x y a b = p .rows x a y ∙ ap (λ (t : Bool). t && clash starts ends x y) (lt-ltb y (length starts) b)

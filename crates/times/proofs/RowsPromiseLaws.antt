@@ -1,5 +1,5 @@
--- What the call that writes clash rows promises leaves one answer and one state of the lent rows; the rows are the matrix of a clash list, with the clashes
--- of the times. Assumes nothing.
+-- What the call that writes clash rows promises leaves one answer and one state of the lent rows; the rows are the matrix of a clash list, with the
+-- clashes of the times. Assumes nothing.
 use mathlib.Core.Path.{_≡_, refl, sym, ap, _∙_, subst}
 use mathlib.Core.Logic.{_≢_}
 use mathlib.Core.Bool.{Bool, _&&_, cond}
@@ -40,17 +40,19 @@ module _ (most : ℕ) (starts ends before : List ℕ) where
   rows-answer (Time i) after p = judged (time i) (p .0)
   rows-answer Room after p = judged fine (p .0 .timed) ∙ ap (λ (b : Bool). cond b Room (Entries n)) (lt-ltb (length before) n (p .0 .short))
   rows-answer (Entries k) after p =
-      judged fine (p .opened .timed) ∙ ap (λ (b : Bool). cond b Room (Entries n)) (le-ltb (length before) n (p .opened .fits)) ∙ ap Entries (sym (p .count))
+      judged fine (p .opened .timed) ∙ ap (λ (b : Bool). cond b Room (Entries n)) (le-ltb (length before) n (p .opened .fits))
+      ∙ ap Entries (sym (p .count))
 
-  lent-same : (a : Listed) (after after′ : List ℕ) → PromisedUpTo most starts ends before a after → PromisedUpTo most starts ends before a after′ → after ≡ after′
+  lent-same : (a : Listed) (after after′ : List ℕ) → PromisedUpTo most starts ends before a after → PromisedUpTo most starts ends before a after′
+      → after ≡ after′
   lent-same Many after after′ p q = p .1 ∙ sym (q .1)
   lent-same Uneven after after′ p q = p .1 ∙ sym (q .1)
   lent-same (Time i) after after′ p q = p .1 ∙ sym (q .1)
   lent-same Room after after′ p q = p .1 ∙ sym (q .1)
   lent-same (Entries k) after after′ p q = rows-same starts ends before after after′ (p .are) (q .are)
 
-  pub rows-unique : (a b : Listed) (after after′ : List ℕ) → PromisedUpTo most starts ends before a after → PromisedUpTo most starts ends before b after′
-      → (a ≡ b) × (after ≡ after′)
+  pub rows-unique : (a b : Listed) (after after′ : List ℕ) → PromisedUpTo most starts ends before a after
+      → PromisedUpTo most starts ends before b after′ → (a ≡ b) × (after ≡ after′)
   rows-unique a b after after′ p q =
       let e : a ≡ b = sym (rows-answer a after p) ∙ rows-answer b after′ q in
       (e, lent-same b after after′ (subst (λ (x : Listed). PromisedUpTo most starts ends before x after) e p) q)
@@ -80,7 +82,7 @@ module _ (most : ℕ) (starts ends before : List ℕ) where
           few = omega (arith, rows-long, p .opened .timed .even .few .starts-few);
           no-stray = λ x b s. stray x (omega (arith, rows-long)) (s .0) (omega (arith, s .1, rows-long)) (s .2);
         };
-        no-itself = λ x b t. times-valid starts ends n .no-self x (omega (arith, rows-long)) (subst T (rows-clash x x (omega (arith, rows-long)) (omega (arith, rows-long))) t);
+        no-itself = λ x b t. let l : x < n = omega (arith, rows-long) in times-valid starts ends n .no-self x l (subst T (rows-clash x x l l) t);
       };
       no-one-sided = λ x b s. s .3 (turned x (s .0) (omega (arith, rows-long)) (omega (arith, s .1, rows-long)) (s .2));
     }

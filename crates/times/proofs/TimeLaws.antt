@@ -9,7 +9,7 @@ use borrow.Author.Tests.{lt-ltb, le-ltb, eq-eqb, ne-eqb}
 use lib.Dec.{T, eqb, leb, ltb, leb→le, le→leb, ltb→lt, lt→ltb, not-T, T-not}
 use lib.ListN.{length}
 use Rattle.sets.specs.Lists.{lowest}
-use Rattle.sets.proofs.TestLaws.{and-l, and-r, and-t, or-l, or-r, or-cases}
+use Rattle.sets.proofs.TestLaws.{and-r, and-t, or-l, or-r, or-cases}
 use Rattle.sets.proofs.MemberLaws.{lowest-is, lowest-none}
 use Rattle.times.specs.Week.{week, startOf, endOf}
 use Rattle.times.specs.Times.{inRange, mistimed, FewUpTo, EvenUpTo, InTimeUpTo, JudgedUpTo, judgeUpTo, atFault}
@@ -68,7 +68,7 @@ module _ (starts ends : List ℕ) (x : ℕ) where
   in-time f = (
     ltb→lt s e (not-not (ltb s e) (λ t. f (or-l (not (ltb s e)) (not (inRange starts ends x)) t))),
     leb→le e week (and-r (leb 1 e) (leb e week) (and-r (ltb s week) (leb 1 e && leb e week)
-    (not-not (inRange starts ends x) (λ t. f (or-r (not (ltb s e)) (not (inRange starts ends x)) t))))),
+        (not-not (inRange starts ends x) (λ t. f (or-r (not (ltb s e)) (not (inRange starts ends x)) t))))),
   )
 
 module _ (most : ℕ) (starts ends : List ℕ) where

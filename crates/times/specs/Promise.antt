@@ -1,6 +1,6 @@
 -- What the call over times promises, for every pair of slices and every buffer: the answer, and the lent colour bytes as they are afterwards.
 --
---   Numbers, numbers a : an answer in document 02's numbers: its number in the table (crate refusals), k, and the entry at fault; 0 where it names none
+--   Numbers, numbers a : an answer in document 02's numbers: its number in the table (crate refusals), k, and the entry at fault; else 0
 --   AcceptsUpTo        : the entries are seated: the described groups (described, many), a clash-free division (division, free); k is the greatest
 --                        number present in one minute (busiest) and the chromatic number of these clashes (fewest); the bytes from n on stay
 --   MetUpTo v after    : what the numbers v say is so, and `after` are the bytes
@@ -75,7 +75,8 @@ refused (time i) next = Time i
 -- in the order of document 02: 1, 41, 40, then 5
 abbrev pub answerUpTo : ℕ → List ℕ → List ℕ → List ℕ → Answer
 answerUpTo most starts ends before =
-    refused (judgeUpTo most starts ends) (cond (ltb (length before) (length starts)) Short (Accepted (groups 0 (groupsOf starts ends (length starts)))))
+    refused (judgeUpTo most starts ends)
+    (cond (ltb (length before) (length starts)) Short (Accepted (groups 0 (groupsOf starts ends (length starts)))))
 
 abbrev pub lent : List ℕ → List ℕ → List ℕ → Answer → List ℕ
 lent starts ends before (Accepted k) = groupsOf starts ends (length starts) ++ drop (length starts) before

@@ -1,5 +1,5 @@
--- Document 02, Ask 12: entries that have only start and end minutes of a week. `starts` and `ends` are lists of minutes; entry x is there from its start,
--- inclusive, to its end, exclusive.
+-- Document 02, Ask 12: entries that have only start and end minutes of a week. `starts` and `ends` are lists of minutes; entry x is there from its
+-- start, inclusive, to its end, exclusive.
 --
 --   week                    : how many minutes a week has
 --   startOf, endOf          : the start, the end of an entry
