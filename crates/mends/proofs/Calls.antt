@@ -1,16 +1,15 @@
 -- What follows from the promise of a call that mends a sheet, for any limits.
-use Prim.Native.Nat.{ℕ, suc, _≤_, _<_}
-use mathlib.Core.Path.{_≡_, refl, sym, ap, subst, _∙_}
+use Prim.Native.Nat.{ℕ, _≤_, _<_}
+use mathlib.Core.Path.{_≡_, refl, sym, ap, _∙_}
 use mathlib.Core.Logic.{_⊎_, inl, inr}
 use mathlib.Core.List.{List, [], _++_}
 use mathlib.Core.Bool.{Bool, true, false, cond}
 use native.Mathlib.Omega.{arith}
 use borrow.Author.Tests.{leb-true, leb-false, le-leb}
-use lib.Dec.{leb, eqb}
+use lib.Dec.{leb}
 use lib.ListN.{length, take, drop}
-use Rattle.sets.specs.Lists.{count}
-use Rattle.clashes.specs.Divisions.{at, groups}
-use Rattle.clashes.specs.Matrix.{matrix, Valid}
+use Rattle.clashes.specs.Divisions.{groups}
+use Rattle.clashes.specs.Matrix.{matrix}
 use Rattle.lines.specs.Text.{linesOf}
 use Rattle.lines.specs.Numeral.{over}
 use Rattle.lists.specs.Read.{readUpTo}
@@ -32,7 +31,7 @@ use Rattle.texts.proofs.ListRefused.{list-refused}
 use Rattle.texts.proofs.ListMeaning.{list-valid, list-taken}
 use Rattle.texts.proofs.CheckCalls.{check-taken, check-accepted}
 use Rattle.mends.specs.Typed.{Typed, is, faulty, typedOf}
-use Rattle.mends.specs.Mend.{gone, mended}
+use Rattle.mends.specs.Mend.{mended}
 use Rattle.mends.specs.Report.{outputText}
 use Rattle.mends.specs.Promise.{Mending, printed, unread, refused, mendTyped, mendSheetUpTo, againstUpTo, mendUpTo, answerOf, leftOf, MendPromiseUpTo}
 use Rattle.mends.specs.declared.Mended.{Mended}

@@ -38,10 +38,8 @@ use Rattle.mends.specs.Mend.{gone, mended}
 use Rattle.mends.specs.Promise.{MendPromise}
 use Rattle.mends.specs.declared.Mended.{Mended}
 use Rattle.mends.specs.declared.Mended.the-variants.{Written, Unread, Refused, Full}
-use Rattle.mends.proofs.Groups.{OneGroup}
-use Rattle.mends.proofs.Seen.{flat}
+use Rattle.mends.specs.Groups.{OneGroup, flat, sheetGroups}
 use Rattle.mends.proofs.MendedLaws.{mended-division, kept-together}
-use Rattle.mends.proofs.Passing.{sheetGroups}
 use Rattle.mends.proofs.Retyped.{sheet-typed, stands-once}
 use Rattle.mends.proofs.Sheets.{today, mended-sheet}
 use Rattle.mends.proofs.Calls as calls
