@@ -3,3 +3,4 @@ pub mod Mend
 pub mod Report
 pub mod Promise
 pub mod Groups
+pub mod Faults
