@@ -22,7 +22,7 @@ use Rattle.lines.specs.declared.Alone.{Alone}
 use Rattle.lines.specs.declared.Alone.the-variants.{Only, Other}
 use Rattle.sheets.specs.Check.{groupsWord, sizeWord, behindOf}
 use Rattle.sheets.specs.declared.SheetFault.{SheetFault}
-use Rattle.sheets.specs.declared.SheetFault.the-variants.{Line, Ends, Extra}
+use Rattle.sheets.specs.declared.SheetFault.the-variants.{Long, Line, Ends, Extra}
 use Rattle.texts.specs.Faults.{Unended, place, Clean, InLine, AtEnd}
 use Rattle.texts.specs.SheetFaults.{Kind, sizeLine, memberLine, kindOf, kindAt, Group, Saying, nothing, says, laid, before, needOf, OverPlace, Misshaped}
 use Rattle.texts.proofs.Refusals.{if-cases, refusal-make, refusal-one, refusal-none}
@@ -157,7 +157,7 @@ module _ (t0 : Text) (i k : ℕ) (gs : List Group) (c : Counts) where
 
 -- a line that is ended
 module _ (t0 : Text) (i : ℕ) (l : List ℕ) (t : Text)
-  (next : (k : ℕ) (gs : List Group) (c : Counts) → Held t0 (suc i) k gs c t → Means t0 (typedFrom t (suc i + 1) c)) where
+    (next : (k : ℕ) (gs : List Group) (c : Counts) → Held t0 (suc i) k gs c t → Means t0 (typedFrom t (suc i + 1) c)) where
   onward : (k : ℕ) (gs : List Group) (c : Counts) → Held t0 (suc i) k gs c t → Means t0 (typedFrom t (i + 1 + 1) c)
   onward k gs c h = let e : suc i + 1 ≡ i + 1 + 1 = omega arith in subst (λ (m : ℕ). Means t0 (typedFrom t m c)) e (next k gs c h)
 
@@ -298,5 +298,5 @@ module _ (longest : ℕ) (s : List ℕ) where
   pub refused-words : (n : ℕ) (clash : ℕ → ℕ → Bool) (f : SheetFault) (k : ℕ) → mendSheetUpTo longest n clash s ≡ refused f k → MendRefused longest s (numberOf f) k
   refused-words n clash f k e =
       ⊎-elim
-      (λ x. subst (λ (g : SheetFault). MendRefused longest s (numberOf g) k) (sym (x .0)) (x .1, x .2))
+      (λ x. let long : MendRefused longest s (numberOf Long) k = (x .1, x .2) in subst (λ (g : SheetFault). MendRefused longest s (numberOf g) k) (sym (x .0)) long)
       (λ x. typed-refused (x .0) f k (x .1)) (refused-is longest n clash s f k e)
