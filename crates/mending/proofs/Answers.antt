@@ -1,9 +1,9 @@
 -- The call's answers: what was gone through is what mends says, and the output is all that was put.
-use Prim.Native.Nat.{ℕ, zero, suc, _+_, _≤_, _<_}
+use Prim.Native.Nat.{ℕ, _+_, _≤_, _<_}
 use mathlib.Core.Path.{_≡_, refl, sym, ap, subst, _∙_}
 use mathlib.Core.Logic.{⊎-elim}
 use mathlib.Core.List.{List, [], _∷_, _++_, map, append-assoc}
-use mathlib.Core.Bool.{Bool, true, false, cond}
+use mathlib.Core.Bool.{Bool, false, cond}
 use native.Mathlib.Decide.{ℕ-discrete}
 use native.Mathlib.Omega.{arith}
 use borrow.Author.Tests.{le-leb, lt-leb}
@@ -31,13 +31,13 @@ use Rattle.texts.proofs.ListMeaning.{list-valid}
 use Rattle.mends.specs.declared.Mended.{Mended}
 use Rattle.mends.specs.declared.Mended.the-variants.{Written, Unread, Refused, Full}
 use Rattle.mends.specs.Typed.{Typed, is, faulty, typedOf}
-use Rattle.mends.specs.Mend.{none, Going, closed, groupOf, memberOf, start as nothingGone, gone, again, admit, groupPlace, mended}
+use Rattle.mends.specs.Mend.{none, Going, closed, groupOf, start as nothingGone, gone, again, admit, groupPlace, mended}
 use Rattle.mends.specs.Report.{droppedLines, droppedText, putText, outputText}
 use Rattle.mends.specs.Promise.{Mending, printed, refused, mendTyped, mendSheet, againstUpTo, mendOf, answerOf, leftOf, MendPromise}
-use Rattle.mends.proofs.Groups.{Apart}
+use Rattle.mends.specs.Groups.{Apart}
 use Rattle.mends.proofs.MendedLaws.{mended-has, mended-apart}
 use Rattle.mends.proofs.Sheets.{Headed, headed}
-use Rattle.mending.specs.Held.{RowsAt, goingOf, droppedOf, Ran, whole, failed, run, ranBy, HeldBy, ThroughOf}
+use Rattle.mending.specs.Held.{RowsAt, goingOf, droppedOf, whole, failed, run, ranBy, HeldBy, ThroughOf}
 use Rattle.mending.specs.Places.{setsOf, AgainOf, Everyone, NumberedOf}
 use Rattle.mending.specs.Calls.{GoneAs, WholeAs, mendedOf, Answered}
 use Rattle.mending.specs.declared.Gone.{Gone}

@@ -1,27 +1,26 @@
 -- One member more, and a group at its end, in the words that hold them.
 use Prim.Native.Nat.{ℕ, suc, _+_, _-_, _≤_, _<_}
 use mathlib.Core.Path.{_≡_, refl, sym, ap, subst, fun-ext, _∙_}
-use mathlib.Core.Logic.{_≢_, ⊎-elim}
+use mathlib.Core.Logic.{_≢_}
 use mathlib.Core.List.{List, [], _∷_, _++_, map, map-append, append-nil}
 use mathlib.Core.Bool.{Bool, true, false, cond, not, _&&_, _||_}
 use native.Mathlib.Numerals.{add-one}
 use native.Mathlib.Omega.{arith}
 use borrow.Author.Tests.{ne-eqb}
-use lib.Dec.{T, eqb, eqb→eq}
+use lib.Dec.{T, eqb}
 use lib.ListN.{length, take, set, getD, length-set, length-append}
 use lib.Seq.{take-suc-set}
-use Rattle.sets.specs.Lists.{bit, put, any, upto}
+use Rattle.sets.specs.Lists.{bit, put, any}
 use Rattle.sets.specs.Set.{has, size, IsWith, IsMeet}
-use Rattle.sets.proofs.TestLaws.{and-l, and-r, or-r, or-false, bit-few, bit-one, bit-zero, eqb-of, T→true, T→false, any-make, any-get}
+use Rattle.sets.proofs.TestLaws.{and-r, or-r, or-false, bit-few, bit-one, bit-zero, eqb-of, T→true, T→false, any-make, any-get}
 use Rattle.sets.proofs.MemberLaws.{count-but, count-few}
 use Rattle.sets.proofs.SetLaws.{has-none, some-member}
 use Rattle.clashes.specs.Matrix.{matrix}
 use Rattle.lines.specs.Numeral.{numeral, oneLine}
 use Rattle.lines.proofs.Writing.{one-length}
 use Rattle.lines.proofs.Back.{numeral-length}
-use Rattle.sheets.specs.Sound.{Within}
 use Rattle.sheets.proofs.Sets.{empty-is, empty-within, with-within}
-use Rattle.mends.specs.Mend.{none, with, Going, taken, clashes, lifting, keeping, memberOf, closed}
+use Rattle.mends.specs.Mend.{Going, taken, clashes, lifting, keeping, memberOf, closed}
 use Rattle.mends.specs.Report.{droppedWord, droppedText}
 use Rattle.mends.proofs.Sorted.{taken-is}
 use Rattle.mending.specs.Held.{RowsAt, goingOf, full, FitsAt, droppedMore}

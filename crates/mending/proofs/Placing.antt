@@ -1,7 +1,7 @@
 -- Entries put again: which they are, the first group that admits one, and what the groups are then.
 use Prim.Native.Nat.{ℕ, zero, suc, _+_, _-_, _^_, _≤_, _<_, suc-le-suc, zero-le}
-use mathlib.Core.Path.{_≡_, refl, sym, ap, subst, fun-ext, _∙_}
-use mathlib.Core.Logic.{_⊎_, inl, inr, _≢_, ⊎-elim}
+use mathlib.Core.Path.{_≡_, sym, ap, subst, fun-ext, _∙_}
+use mathlib.Core.Logic.{_⊎_, ⊎-elim}
 use mathlib.Core.List.{List, [], _∷_, _++_, map}
 use mathlib.Core.Bool.{Bool, true, false, cond, not, _&&_, _||_}
 use native.Mathlib.Nat.{le-of-suc-le-suc, not-suc-le-zero}
@@ -10,17 +10,17 @@ use native.Mathlib.Decide.{decLt}
 use native.Mathlib.Omega.{arith}
 use borrow.Author.Tests.{lt-ltb}
 use lib.Bits.{bitAnd}
-use lib.Dec.{T, eqb, ltb, ltb→lt}
-use lib.ListN.{length, take, set, getD, length-set}
+use lib.Dec.{T, eqb, ltb→lt}
+use lib.ListN.{length, take, set, getD}
 use lib.Seq.{take-suc-set, take-set-lt, length-take-le, getD-take}
-use Rattle.sets.specs.Lists.{bit, count, upto, members, over}
+use Rattle.sets.specs.Lists.{bit, count, upto, members}
 use Rattle.sets.specs.Set.{has, size, IsWith, IsWithout, IsJoin, IsLess, IsBelow, IsLowest}
-use Rattle.sets.proofs.TestLaws.{and-l, and-r, or-cases, t-not, bit-one, bit-zero, T?}
+use Rattle.sets.proofs.TestLaws.{and-l, and-r, or-cases, t-not}
 use Rattle.sets.proofs.MemberLaws.{count-upto, members-agree, members-none, members-narrow}
 use Rattle.sets.proofs.SetLaws.{has-none, without-is, size-without, members-cons}
 use Rattle.sheets.specs.Sound.{Within}
-use Rattle.mends.specs.Mend.{none, with, clashes, admit, again}
-use Rattle.mending.specs.Held.{goingOf, FitsAt}
+use Rattle.mends.specs.Mend.{with, clashes, admit}
+use Rattle.mending.specs.Held.{FitsAt}
 use Rattle.mending.specs.Places.{setsOf, AgainOf, FirstOf}
 use Rattle.mending.specs.declared.Gone.{Gone}
 use Rattle.mending.specs.declared.Groups.{Groups}

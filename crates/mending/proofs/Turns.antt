@@ -3,12 +3,12 @@
 --   Along  : the rest of the sheet, with what is known, comes to what the whole comes to
 --   Turned : with what is known next, it comes to what it came to
 use Prim.Native.Nat.{ℕ, _+_, _-_, _≤_, _<_}
-use mathlib.Core.Path.{_≡_, refl, sym, ap, subst, _∙_}
-use mathlib.Core.List.{List, [], _∷_, _++_}
+use mathlib.Core.Path.{_≡_, refl, sym, ap, _∙_}
+use mathlib.Core.List.{List, []}
 use mathlib.Core.Bool.{Bool, true, false, cond, not}
 use native.Mathlib.Omega.{arith}
 use lib.ListN.{length, take, drop, length-append, drop-of-length-le}
-use Rattle.sets.specs.Lists.{put, over}
+use Rattle.sets.specs.Lists.{put}
 use Rattle.sets.specs.Set.{has}
 use Rattle.clashes.specs.Matrix.{matrix}
 use Rattle.lines.specs.Text.{Text, linesOf, lineEnd}
@@ -21,10 +21,10 @@ use Rattle.mends.specs.declared.Counts.{Counts}
 use Rattle.mends.specs.declared.Step.{Step}
 use Rattle.mends.specs.declared.Step.the-variants.{Stop, Groups, Size, Member}
 use Rattle.mends.specs.Typed.{Typed, is, faulty, member, group, after, stepOf, met, typedFrom, typedOf, start as noCounts}
-use Rattle.mends.specs.Mend.{none, Going, taken, sees, memberOf, closed, start as nothingGone}
+use Rattle.mends.specs.Mend.{Going, taken, sees, memberOf, closed, start as nothingGone}
 use Rattle.mends.specs.Report.{droppedWord, droppedText}
 use Rattle.mends.proofs.Seen.{member-seen}
-use Rattle.mending.specs.Held.{goingOf, FitsAt, start, cutOf, droppedMore, dropsOf, droppedAt, droppedOf, whole, failed, run, HeldBy, ThroughOf}
+use Rattle.mending.specs.Held.{goingOf, FitsAt, start, cutOf, dropsOf, droppedAt, droppedOf, whole, run, ThroughOf}
 use Rattle.mending.specs.declared.Gone.{Gone}
 use Rattle.mending.specs.declared.Shape.the-variants.{Whole, Faulty}
 use Rattle.mending.proofs.HeldLaws.{drops-most, Membered}

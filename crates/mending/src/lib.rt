@@ -15,13 +15,12 @@ ghost use Rattle.sets.specs.Lists.{members, over};
 ghost use Rattle.sets.specs.Set.{has as member, size};
 ghost use Rattle.clashes.specs.Matrix.{matrix, Valid};
 ghost use Rattle.sheets.specs.Sound.{Within};
-ghost use Rattle.lines.specs.Text.{linesOf};
 ghost use Rattle.lines.specs.Numeral.{Put};
 ghost use Rattle.mends.specs.Typed.{groupsOf, sizeOf, memberOf, stepOf, met as metOf};
 ghost use Rattle.mends.specs.Mend.{taken as takenOf, clashes, sees as seesOf, memberOf as goneMember, closed as closedOf, admit, groupPlace};
 ghost use Rattle.mends.specs.Report.{droppedText, entryLine, putText};
 ghost use Rattle.mends.specs.Promise.{refusedIn, numbersOf, mendSheet, MendPromise};
-ghost use Rattle.mends.proofs.Groups.{Apart};
+ghost use Rattle.mends.specs.Groups.{Apart};
 ghost use Rattle.mending.specs.Held.{RowsOf, goingOf, Fits, cutOf, droppedMore, droppedOf, start, ThroughOf};
 ghost use Rattle.mending.specs.Places.{AgainOf, FirstOf, setsOf, Everyone, NumberedOf};
 ghost use Rattle.mending.specs.Calls.{GoneAs, WholeAs, mendedOf, Answered};
@@ -192,13 +191,16 @@ fn with_member(rows: &[u64], n: usize, g: Gone, line: usize, u: usize) -> Gone
     ensures { λ r. ⌜ (goingOf r ≡ goneMember n (matrix (now (rows .entry))) (goingOf g) u) × Fits n r × (r .bytes ≡ g .bytes + length (droppedText (droppedMore n (member (g .seen)) line u))) ⌝ }
 {
     let mut r = g;
-    if taken(n, r.seen, u) {
+    let met = r.seen;
+    if taken(n, met, u) {
         let e = u - 1;
-        r.seen = sets::with(r.seen, e);
+        let seen = sets::with(met, e);
         if sets::meet(r.mates, rows[e]) != 0 {
+            r.seen = seen; // met again, it is dropped
             r.lifted = sets::with(r.lifted, e);
             return r;
         }
+        r.seen = seen;
         r.mates = sets::with(r.mates, e);
         return r;
     }
@@ -503,7 +505,7 @@ fn put_dropped(out: &mut [u8], n: usize, sheet: &[u8]) -> usize
             }
         }
         at = e + 1;
-        line += 1;
+        line += 1; // the sheet's lines, dropped or not
     }
     a
 }

@@ -1,16 +1,15 @@
 -- What follows from the promise of a call that mends a sheet, for any limits.
-use Prim.Native.Nat.{ℕ, suc, _≤_, _<_}
+use Prim.Native.Nat.{ℕ, _≤_, _<_}
 use mathlib.Core.Path.{_≡_, refl, sym, ap, subst, _∙_}
 use mathlib.Core.Logic.{_⊎_, inl, inr}
 use mathlib.Core.List.{List, [], _++_}
 use mathlib.Core.Bool.{Bool, true, false, cond}
 use native.Mathlib.Omega.{arith}
 use borrow.Author.Tests.{leb-true, leb-false, le-leb}
-use lib.Dec.{leb, eqb}
+use lib.Dec.{leb}
 use lib.ListN.{length, take, drop}
-use Rattle.sets.specs.Lists.{count}
-use Rattle.clashes.specs.Divisions.{at, groups}
-use Rattle.clashes.specs.Matrix.{matrix, Valid}
+use Rattle.clashes.specs.Divisions.{groups}
+use Rattle.clashes.specs.Matrix.{matrix}
 use Rattle.lines.specs.Text.{linesOf}
 use Rattle.lines.specs.Numeral.{over}
 use Rattle.lists.specs.Read.{readUpTo}
@@ -18,9 +17,9 @@ use Rattle.lists.specs.Promise.{numberOf as listNumberOf}
 use Rattle.lists.specs.declared.Fault.{Fault}
 use Rattle.lists.specs.declared.Reading.{Reading}
 use Rattle.lists.specs.declared.Reading.the-variants.{Read, Refused as Unreadable}
-use Rattle.sheets.specs.Promise.{CheckPromiseUpTo}
+use Rattle.sheets.specs.Promise.{theSheet, CheckPromiseUpTo}
 use Rattle.sheets.specs.declared.SheetFault.{SheetFault}
-use Rattle.sheets.specs.declared.SheetFault.the-variants.{Long}
+use Rattle.sheets.specs.declared.SheetFault.the-variants.{Long, Line, Member, Order, Twice, Clash, Ends, Missing, Extra}
 use Rattle.sheets.specs.declared.Checked.{Checked}
 use Rattle.sheets.specs.declared.Checked.the-variants.{Accepted}
 use Rattle.sheet_texts.specs.Sheet.{sheetText}
@@ -30,14 +29,18 @@ use Rattle.texts.specs.Sheets.{SheetOf}
 use Rattle.texts.proofs.ListAccepted.{list-accepted}
 use Rattle.texts.proofs.ListRefused.{list-refused}
 use Rattle.texts.proofs.ListMeaning.{list-valid, list-taken}
+use Rattle.texts.proofs.SheetFaultLaws.{numberOf}
 use Rattle.texts.proofs.CheckCalls.{check-taken, check-accepted}
 use Rattle.mends.specs.Typed.{Typed, is, faulty, typedOf}
-use Rattle.mends.specs.Mend.{gone, mended}
+use Rattle.mends.specs.Mend.{mended}
 use Rattle.mends.specs.Report.{outputText}
-use Rattle.mends.specs.Promise.{Mending, printed, unread, refused, mendTyped, mendSheetUpTo, againstUpTo, mendUpTo, answerOf, leftOf, MendPromiseUpTo}
+use Rattle.mends.specs.Promise.{Mending, printed, unread, refused, mendTyped, mendSheetUpTo, againstUpTo, mendUpTo, answerOf, leftOf, numbersOf, MendPromiseUpTo}
+use Rattle.mends.specs.Faults.{MendRefused}
+use Rattle.mends.specs.declared.Numbers.{Numbers}
 use Rattle.mends.specs.declared.Mended.{Mended}
 use Rattle.mends.specs.declared.Mended.the-variants.{Written, Unread, Refused, Full}
-use Rattle.mends.proofs.Sheets.{Fitting, printed-is, refused-is, mended-sheet, sheet-back}
+use Rattle.mends.proofs.Sheets.{Fitting, printed-is, mended-sheet, sheet-back}
+use Rattle.mends.proofs.FaultLaws.{typed-unrefused, mend-refusal-one, refused-words}
 
 module _ (plain : Bool) (most longest : ℕ) (list s : List ℕ) where
   -- ---- the list's answer
@@ -181,12 +184,12 @@ module _ (plain : Bool) (most longest : ℕ) (list s : List ℕ) where
             let z : Unreadable g j d ≡ Unreadable f k c = cc in
             (list-refused plain most longest list most f k c (q ∙ z), bare (mendUpTo plain most longest list s) (p .answer) (p .lent))
 
-    -- of the sheet: 18; or its lines have that fault
+    -- of the sheet: it is refused so in words
     pub record SheetAtFault (f : SheetFault) (k : ℕ) : Type 0 where
       pub n : ℕ
       pub rows : List ℕ
       pub list-of : ListOf plain most longest list n rows
-      pub why : ((f ≡ Long) × (k ≡ 0) × (longest < length s)) ⊎ ((length s ≤ longest) × (typedOf (linesOf s) ≡ faulty f k))
+      pub why : MendRefused longest s (numberOf f) k
       pub lent : new ≡ old
 
     pub mend-refused : (f : SheetFault) (k : ℕ) → MendPromiseUpTo plain most longest list s old (Refused f k) new → SheetAtFault f k
@@ -203,7 +206,7 @@ module _ (plain : Bool) (most longest : ℕ) (list s : List ℕ) where
               n = y .n;
               rows = y .rows;
               list-of = y .list-of;
-              why = refused-is longest (y .n) (matrix (y .rows)) s f k (y .same ∙ z);
+              why = refused-words longest s (y .n) (matrix (y .rows)) f k (y .same ∙ z);
               lent = lent-is old (Refused f k) new p (refused g j) e;
             }
         pick g j q e (inr y) = let e = y .same in let z : _≡_ {A = ℕ} 0 1 = cc in absurd (omega arith)
@@ -249,6 +252,51 @@ module _ (plain : Bool) (most longest : ℕ) (list s : List ℕ) where
         go (printed x) e = room x e (leb (length x) (length old)) refl (answer-is old Full new p (printed x) e) (lent-is old Full new p (printed x) e)
         go (unread g j d) e = let q = answer-is old Full new p (unread g j d) e in let z : _≡_ {A = ℕ} 0 1 = cc in absurd (omega arith)
         go (refused g j) e = let q = answer-is old Full new p (refused g j) e in let z : _≡_ {A = ℕ} 0 1 = cc in absurd (omega arith)
+
+-- ---- refused in words
+
+-- a refusal of the sheet, in numbers
+abbrev pub refusedOf : ℕ → ℕ → Numbers
+refusedOf f k = record { number = f; line = k; column = 0; length = 0; text = theSheet }
+
+-- 18 names no line
+sheet-numbers : (f : SheetFault) (k : ℕ) → (numberOf f ≡ 18 → k ≡ 0) → numbersOf (Refused f k) ≡ refusedOf (numberOf f) k
+sheet-numbers Line k h = refl
+sheet-numbers Member k h = refl
+sheet-numbers Order k h = refl
+sheet-numbers Twice k h = refl
+sheet-numbers Clash k h = refl
+sheet-numbers Ends k h = refl
+sheet-numbers Missing k h = refl
+sheet-numbers Extra k h = refl
+sheet-numbers Long k h = ap (λ (j : ℕ). refusedOf 18 j) (sym (h refl))
+
+module _ (plain : Bool) (most longest : ℕ) (list s old new : List ℕ) (a : Mended) (p : MendPromiseUpTo plain most longest list s old a new) where
+  -- every sheet that the words refuse is refused with that number and that line
+  pub mend-refused-so : (n : ℕ) (rows : List ℕ) → ListOf plain most longest list n rows → (f k : ℕ) → MendRefused longest s f k
+      → numbersOf a ≡ refusedOf f k
+  mend-refused-so n rows l f k m = go (mendSheetUpTo longest n (matrix rows) s) refl
+    where
+      same : (r : Mending) → mendSheetUpTo longest n (matrix rows) s ≡ r → a ≡ answerOf r (length old)
+      same r e = answer-is plain most longest list s old a new p r (mend-is plain most longest list s n rows l ∙ e)
+
+      go : (r : Mending) → mendSheetUpTo longest n (matrix rows) s ≡ r → numbersOf a ≡ refusedOf f k
+      go (printed x) e =
+          let w = printed-is longest n (matrix rows) s x e in
+          absurd (typed-unrefused longest s (w .short) [] (w .groups) (w .typed) f k m)
+      go (unread g j c) e = absurd (never (leb (length s) longest) (typedOf (linesOf s)) e)
+        where
+          never : (b : Bool) (t : Typed) → cond b (mendTyped n (matrix rows) t) (refused Long 0) ≡ unread g j c → ⊥
+          never true (is us gs) e = let z : _≡_ {A = ℕ} 0 1 = cc in omega arith
+          never true (faulty h i) e = let z : _≡_ {A = ℕ} 0 1 = cc in omega arith
+          never false t e = let z : _≡_ {A = ℕ} 0 1 = cc in omega arith
+      go (refused g j) e =
+          let w = refused-words longest s n (matrix rows) g j e in
+          let o = mend-refusal-one longest s (numberOf g) f j k w m in
+          ap numbersOf (same (refused g j) e)
+          ∙ sheet-numbers g j (λ z. subst (λ (x : ℕ). MendRefused longest s x j) z w .0)
+          ∙ ap (λ (x : ℕ). refusedOf x j) (o .0)
+          ∙ ap (λ (x : ℕ). refusedOf f x) (o .1)
 
 -- ---- what was written, checked and mended again
 

@@ -3,9 +3,10 @@
 -- text and every lent memory, in words that have no mending in them:
 --
 --   ListOf, ListRefused, SheetOf (texts' specs/)  : what an accepted list is, how one is refused, and what an accepted sheet is
+--   MendRefused (specs/Faults.antt)               : how a sheet that is to be mended is refused
 --   typedOf (specs/Typed.antt)                    : a sheet's groups as they were typed, by the shape of its lines alone
 --   gone n clash gs .groups (specs/Mend.antt)     : what was kept of each group of the sheet
---   OneGroup gs x y, flat gs (proofs/)            : some group of gs has both entries; the members of the groups gs, one after the other
+--   OneGroup gs x y, flat gs (specs/Groups.antt)  : some group of gs has both entries; the members of the groups gs, one after the other
 --
 -- The mended sheet is `sheetText c`, where c is `mended n clash gs`; `Wrote` (proofs/Calls.antt) has n, the list's rows and gs. `plain` is true for the plain
 -- reading of the list, and false for the other. proofs/Calls.antt has the same for any limits. That "seen before" is that the same number stands earlier in the
@@ -24,7 +25,7 @@ use Rattle.lines.specs.Text.{linesOf}
 use Rattle.lines.specs.Numeral.{over}
 use Rattle.lists.specs.Promise.{numberOf as listNumberOf}
 use Rattle.lists.specs.declared.Fault.{Fault}
-use Rattle.sheets.specs.Promise.{CheckPromise}
+use Rattle.sheets.specs.Promise.{theSheet, CheckPromise}
 use Rattle.sheets.specs.declared.SheetFault.{SheetFault}
 use Rattle.sheets.specs.declared.Checked.{Checked}
 use Rattle.sheets.specs.declared.Checked.the-variants.{Accepted}
@@ -35,13 +36,12 @@ use Rattle.texts.specs.Sheets.{SheetOf}
 use Rattle.texts.proofs.ListMeaning.{list-valid}
 use Rattle.mends.specs.Typed.{is, typedOf}
 use Rattle.mends.specs.Mend.{gone, mended}
-use Rattle.mends.specs.Promise.{MendPromise}
+use Rattle.mends.specs.Promise.{numbersOf, MendPromise}
+use Rattle.mends.specs.Faults.{MendRefused}
 use Rattle.mends.specs.declared.Mended.{Mended}
 use Rattle.mends.specs.declared.Mended.the-variants.{Written, Unread, Refused, Full}
-use Rattle.mends.proofs.Groups.{OneGroup}
-use Rattle.mends.proofs.Seen.{flat}
+use Rattle.mends.specs.Groups.{OneGroup, flat, sheetGroups}
 use Rattle.mends.proofs.MendedLaws.{mended-division, kept-together}
-use Rattle.mends.proofs.Passing.{sheetGroups}
 use Rattle.mends.proofs.Retyped.{sheet-typed, stands-once}
 use Rattle.mends.proofs.Sheets.{today, mended-sheet}
 use Rattle.mends.proofs.Calls as calls
@@ -57,6 +57,11 @@ module _ (plain : Bool) (list s old new : List ℕ) where
 
   pub mend-refused : (f : SheetFault) (k : ℕ) → MendPromise plain list s old (Refused f k) new → calls.SheetAtFault plain 64 65536 list s old new f k
   mend-refused = calls.mend-refused plain 64 65536 list s old new
+
+  -- Every sheet that the words refuse is refused with that number and that line.
+  pub mend-refused-so : (a : Mended) → MendPromise plain list s old a new → (n : ℕ) (rows : List ℕ) → ListOf plain 64 65536 list n rows → (f k : ℕ)
+      → MendRefused 65536 s f k → numbersOf a ≡ record { number = f; line = k; column = 0; length = 0; text = theSheet }
+  mend-refused-so a = calls.mend-refused-so plain 64 65536 list s old new a
 
   pub mend-full : MendPromise plain list s old Full new → calls.TooLong plain 64 65536 list s old new
   mend-full = calls.mend-full plain 64 65536 list s old new

@@ -1,9 +1,6 @@
 -- Groups as tests: free of clashes, apart, and what is among them.
 --
---   has gs e           : some group of gs has the entry e
 --   Free p, AllFree gs : no two of the group, of each group, clash
---   Apart gs           : no entry stands in two groups
---   OneGroup gs x y    : some group has both
 use Prim.Native.Nat.{ℕ, suc, _<_}
 use mathlib.Core.Path.{_≡_, refl, sym, ap, subst, _∙_}
 use mathlib.Core.Logic.{_⊎_, inl, inr, ⊎-elim}
@@ -11,13 +8,11 @@ use mathlib.Core.List.{List, [], _∷_, _++_}
 use mathlib.Core.Bool.{Bool, true, false, cond, _&&_, _||_}
 use native.Mathlib.Omega.{arith}
 use lib.Dec.{T, eqb, eqb→eq}
-use Rattle.sets.specs.Lists.{In, NoDup, put, some?, any, over}
-use Rattle.sets.proofs.TestLaws.{and-t, or-l, or-r, or-cases, eqb-of, T→true, T→false, any-make, any-get}
+use Rattle.sets.specs.Lists.{In, NoDup, put, over}
+use Rattle.sets.proofs.TestLaws.{and-t, or-l, or-r, or-cases, eqb-of, T→true, T→false, any-make}
 use Rattle.clashes.specs.Matrix.{Valid}
 use Rattle.mends.specs.Mend.{none, with, clashes, admit, groupPlace}
-
-abbrev pub has : List (ℕ → Bool) → ℕ → Bool
-has gs e = some? (λ p. p e) gs
+use Rattle.mends.specs.Groups.{has, Apart, OneGroup}
 
 -- ---- one more in a set
 
@@ -143,14 +138,6 @@ module _ (n : ℕ) (clash : ℕ → ℕ → Bool) where
       (λ m. over-new es (admit n clash gs e) x m) h
 
 -- ---- apart
-
-abbrev pub Apart : List (ℕ → Bool) → Type 0
-Apart [] = Unit {0}
-Apart (p ∷ gs) = ((x : ℕ) → T (p x) → ¬ T (has gs x)) × Apart gs
-
-abbrev pub OneGroup : List (ℕ → Bool) → ℕ → ℕ → Type 0
-OneGroup [] x y = ⊥
-OneGroup (p ∷ gs) x y = (T (p x) × T (p y)) ⊎ OneGroup gs x y
 
 one-has : (gs : List (ℕ → Bool)) (x y : ℕ) → OneGroup gs x y → T (has gs x) × T (has gs y)
 one-has [] x y h = absurd h

@@ -5,6 +5,7 @@ pub mod MendedLaws
 pub mod Passing
 pub mod Retyped
 pub mod Sheets
+pub mod FaultLaws
 pub mod Unique
 pub mod Calls
 pub mod Demands

@@ -1,19 +1,20 @@
 -- What mending makes is a clash-free division of the entries; and two that were kept in one group of the sheet stand in one group of it.
 use Prim.Native.Nat.{ℕ, _<_}
-use mathlib.Core.Path.{_≡_, refl, sym, subst}
+use mathlib.Core.Path.{_≡_, sym, subst}
 use mathlib.Core.List.{List}
 use mathlib.Core.Bool.{Bool, not}
 use native.Mathlib.Decide.{ℕ-discrete}
 use lib.Dec.{T}
-use Rattle.sets.specs.Lists.{In, members}
+use Rattle.sets.specs.Lists.{In}
 use Rattle.sets.proofs.TestLaws.{T?, not-t, t-not}
 use Rattle.sets.proofs.MemberLaws.{In-members, members-In, members-noDup}
-use Rattle.clashes.specs.Divisions.{at, Division, division, clashFree}
+use Rattle.clashes.specs.Divisions.{at, Division, clashFree}
 use Rattle.clashes.specs.Matrix.{Valid}
 use Rattle.clashes.proofs.ColouringLaws.{proper-free}
 use Rattle.clashes.proofs.DivisionLaws.{division-canon, division-length, division-same, division-diff}
-use Rattle.mends.specs.Mend.{Going, gone, again, mendedGroups, groupPlace, mended}
-use Rattle.mends.proofs.Groups.{has, AllFree, Apart, OneGroup, over-free, over-old, over-new, over-apart, over-one, one-place, free-apart}
+use Rattle.mends.specs.Mend.{gone, again, mendedGroups, groupPlace, mended}
+use Rattle.mends.specs.Groups.{has, Apart, OneGroup}
+use Rattle.mends.proofs.Groups.{AllFree, over-free, over-old, over-new, over-apart, over-one, one-place, free-apart}
 use Rattle.mends.proofs.Sorted.{gone-sorted, again-homeless}
 
 module _ (n : ℕ) (clash : ℕ → ℕ → Bool) (gs : List (List ℕ)) where

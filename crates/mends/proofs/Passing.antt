@@ -1,41 +1,32 @@
 -- A sheet that passes is mended to itself, with an empty report. A sheet that was written is, as typed, its division's groups (`sheetGroups`).
 --
---   sheetGroups c  : the groups of the sheet that is written for the division c, as they are typed
 --   keepAll g l    : the entries l, kept one after the other
 --   Are g gs       : the tests gs are those of the groups g, g + 1, .. of the division c
 --   Earlier g seen : the entries seen are those of the groups before group g
 use Prim.Native.Nat.{ℕ, zero, suc, _+_, _-_, _≤_, _<_, zero-le}
 use mathlib.Core.Path.{_≡_, refl, sym, ap, subst, _∙_}
 use mathlib.Core.Logic.{_⊎_, inl, inr, ⊎-elim}
-use mathlib.Core.List.{List, [], _∷_, _++_, map, append-nil}
+use mathlib.Core.List.{List, [], _∷_, _++_, map}
 use mathlib.Core.Bool.{Bool, true, false, cond, not, _&&_, _||_}
 use native.Mathlib.Decide.{ℕ-discrete, decLt}
 use native.Mathlib.Omega.{arith}
 use lib.Dec.{T}
 use lib.ListN.{length}
-use Rattle.sets.specs.Lists.{In, put, any, members, over}
-use Rattle.sets.proofs.TestLaws.{and-t, or-l, or-r, or-cases, T→true, T→false, not-t, t-not, any-make, any-get, and-l, and-r}
+use Rattle.sets.specs.Lists.{In, put, any, over}
+use Rattle.sets.proofs.TestLaws.{and-t, or-cases, T→true, T→false, not-t, t-not, any-make, any-get, and-l, and-r}
 use Rattle.sets.proofs.ListLaws.{map-In}
 use Rattle.sets.proofs.MemberLaws.{members-none}
-use Rattle.clashes.specs.Divisions.{at, Canon, groups, Division, division, clashFree}
-use Rattle.clashes.specs.Matrix.{Valid}
+use Rattle.clashes.specs.Divisions.{at, Canon, groups, division, clashFree}
 use Rattle.clashes.proofs.ColouringLaws.{free-proper, canon-below}
 use Rattle.clashes.proofs.DivisionLaws.{division-unique}
 use Rattle.lists.specs.Read.{inside}
 use Rattle.sheet_texts.specs.Sheet.{membersOf}
-use Rattle.sheet_texts.proofs.Groups.{Rising, rising-In, Led, group-led, members-risen, member-of, of-member}
-use Rattle.mends.specs.Mend.{none, with, Going, taken, clashes, keeping, lifting, sees, memberOf, closed, groupOf, start, gone, again, admit, mendedGroups, groupPlace, mended}
+use Rattle.sheet_texts.proofs.Groups.{Rising, rising-In, group-led, members-risen, member-of, of-member}
+use Rattle.mends.specs.Mend.{none, with, Going, taken, clashes, keeping, lifting, sees, memberOf, closed, groupOf, start, gone, again, admit, groupPlace, mended}
 use Rattle.mends.specs.Report.{droppedIn, droppedLines, droppedText, putText, reportText}
-use Rattle.mends.proofs.Groups.{has, with-cases, with-old, with-new}
+use Rattle.mends.specs.Groups.{sheetGroupsFrom, sheetGroups}
+use Rattle.mends.proofs.Groups.{with-cases, with-old, with-new}
 use Rattle.mends.proofs.Seen.{entry-inside, seen-was}
-use Rattle.mends.proofs.MendedLaws.{mended-division, mended-free}
-
-abbrev pub sheetGroupsFrom : List ℕ → ℕ → ℕ → List (List ℕ)
-sheetGroupsFrom c g zero = []
-sheetGroupsFrom c g (suc k) = map suc (membersOf c 0 g) ∷ sheetGroupsFrom c (g + 1) k
-
-abbrev pub sheetGroups : List ℕ → List (List ℕ)
-sheetGroups c = sheetGroupsFrom c 0 (groups 0 c)
 
 -- ---- kept, all of them
 

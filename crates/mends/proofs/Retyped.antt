@@ -2,33 +2,31 @@
 use Prim.Native.Nat.{ℕ, zero, suc, _+_, _-_, _≤_, _<_}
 use mathlib.Core.Path.{_≡_, refl, sym, ap, subst, _∙_}
 use mathlib.Core.List.{List, [], _∷_, _++_, map, append-assoc, append-nil}
-use mathlib.Core.Bool.{Bool, true, false, cond}
+use mathlib.Core.Bool.{Bool, true, false}
 use native.Mathlib.Numerals.{add-one}
 use native.Mathlib.Decide.{decLt}
 use native.Mathlib.Omega.{arith}
 use borrow.Author.Tests.{le-leb, eqb-true, ne-eqb, eq-eqb}
 use lib.Dec.{T, eqb}
 use lib.ListN.{length}
-use Rattle.sets.specs.Lists.{In, bit, put, count}
-use Rattle.sets.proofs.ListLaws.{count-append, count-map}
+use Rattle.sets.specs.Lists.{bit, put, count}
+use Rattle.sets.proofs.ListLaws.{count-append}
 use Rattle.clashes.specs.Divisions.{at, Canon, groups}
 use Rattle.clashes.proofs.DivisionLaws.{groups-fit}
 use Rattle.clashes.proofs.ColouringLaws.{canon-below}
 use Rattle.lines.specs.Text.{Text, linesOf}
 use Rattle.lines.specs.Numeral.{numeral, oneLine}
 use Rattle.lines.specs.declared.Alone.{Alone}
-use Rattle.lines.specs.declared.Alone.the-variants.{Only}
 use Rattle.lines.proofs.Back.{alone-back, one-back}
 use Rattle.sheets.specs.Check.{groupsWord, sizeWord}
-use Rattle.sheet_texts.specs.Sheet.{membersOf, memberLines, groupText, groupsText, sheetText}
+use Rattle.sheet_texts.specs.Sheet.{membersOf, memberLines, groupsText, sheetText}
 use Rattle.sheet_texts.proofs.Members.{members-le}
-use Rattle.sheet_texts.proofs.Groups.{Rising, Led, group-led, members-risen}
+use Rattle.sheet_texts.proofs.Groups.{Rising, group-led, members-risen}
 use Rattle.mends.specs.declared.Counts.{Counts}
 use Rattle.mends.specs.declared.Step.{Step}
-use Rattle.mends.specs.declared.Step.the-variants.{Groups, Size, Member}
-use Rattle.mends.specs.Typed.{Typed, is, member, group, stepOf, groupsOf, sizeOf, memberOf, after, typedFrom, start, typedOf}
-use Rattle.mends.proofs.Seen.{flat}
-use Rattle.mends.proofs.Passing.{sheetGroupsFrom, sheetGroups}
+use Rattle.mends.specs.declared.Step.the-variants.{Size, Member}
+use Rattle.mends.specs.Typed.{Typed, is, member, group, stepOf, groupsOf, after, typedFrom, typedOf}
+use Rattle.mends.specs.Groups.{flat, sheetGroupsFrom, sheetGroups}
 
 abbrev coming : ℕ → ℕ → Counts
 coming left need = record { begun = true; left = left; need = need }

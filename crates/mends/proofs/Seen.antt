@@ -1,7 +1,4 @@
 -- "Seen before", as a member kept or lifted, is that the same number stands earlier in the sheet.
---
---   stands l x : x is one of l's elements
---   flat gs    : the members of the groups gs, one after the other
 use Prim.Native.Nat.{ℕ, suc, _-_, _≤_, _<_}
 use mathlib.Core.Path.{_≡_, refl, sym, ap, subst, _∙_}
 use mathlib.Core.Logic.{_⊎_, inl, inr, ⊎-elim}
@@ -10,17 +7,14 @@ use mathlib.Core.Bool.{Bool, true, false, cond, not, _&&_}
 use native.Mathlib.Omega.{arith}
 use borrow.Author.Tests.{le-leb}
 use lib.Dec.{T, eqb, eqb→eq}
-use Rattle.sets.specs.Lists.{In, some?, over}
-use Rattle.sets.proofs.TestLaws.{and-t, or-l, or-r, or-cases, not-t, eqb-of, T→true, T→false, T-ext, T?}
-use Rattle.sets.proofs.ListLaws.{In-append, In-append-l, In-append-r}
+use Rattle.sets.specs.Lists.{In, over}
+use Rattle.sets.proofs.TestLaws.{and-t, or-l, or-r, or-cases, not-t, eqb-of, T→true, T-ext, T?}
 use Rattle.lists.specs.Read.{inside}
 use Rattle.lists.proofs.Fold.{inside-is}
 use Rattle.mends.specs.Mend.{none, with, Going, taken, clashes, lifting, keeping, sees, memberOf, groupOf, start, gone}
+use Rattle.mends.specs.Groups.{stands, flat}
 use Rattle.mends.proofs.Groups.{with-cases, with-old, with-new}
 use Rattle.mends.proofs.Sorted.{taken-is}
-
-abbrev pub stands : List ℕ → ℕ → Bool
-stands l x = some? (eqb x) l
 
 pub stands-In : (l : List ℕ) (x : ℕ) → T (stands l x) → In x l
 stands-In [] x h = h
@@ -29,10 +23,6 @@ stands-In (y ∷ l) x h = ⊎-elim (λ e. inl (eqb→eq x y e)) (λ m. inr (stan
 pub In-stands : (l : List ℕ) (x : ℕ) → In x l → T (stands l x)
 In-stands [] x h = h
 In-stands (y ∷ l) x h = ⊎-elim (λ e. or-l (eqb x y) (stands l x) (eqb-of x y e)) (λ m. or-r (eqb x y) (stands l x) (In-stands l x m)) h
-
-abbrev pub flat : List (List ℕ) → List ℕ
-flat [] = []
-flat (us ∷ gs) = us ++ flat gs
 
 -- ---- what is seen, whatever clashes
 

@@ -3,13 +3,13 @@
 --
 --   Fitting most longest : every sheet of up to `most` entries has at most `longest` bytes, and its numbers at most 7 digits
 use Prim.Native.Nat.{ℕ, _+_, _≤_, _<_}
-use mathlib.Core.Path.{_≡_, refl, sym, ap, subst, _∙_}
+use mathlib.Core.Path.{_≡_, refl, sym, ap, _∙_}
 use mathlib.Core.Logic.{_⊎_, inl, inr}
 use mathlib.Core.List.{List, [], _∷_, _++_}
 use mathlib.Core.Bool.{Bool, true, false, cond}
 use native.Mathlib.Omega.{arith}
 use borrow.Author.Tests.{leb-true, leb-false, le-leb}
-use lib.Dec.{T, leb}
+use lib.Dec.{leb}
 use lib.ListN.{length}
 use Rattle.clashes.specs.Divisions.{Canon, groups}
 use Rattle.clashes.specs.Matrix.{Valid}
@@ -24,14 +24,14 @@ use Rattle.sheet_texts.specs.Sheet.{sheetText}
 use Rattle.sheet_texts.proofs.Lengths.{sheet-fits}
 use Rattle.texts.specs.Sheets.{SheetOf}
 use Rattle.mends.specs.declared.Counts.{Counts}
-use Rattle.mends.specs.declared.Step.{Step}
-use Rattle.mends.specs.declared.Step.the-variants.{Stop, Groups, Size, Member}
-use Rattle.mends.specs.Typed.{Typed, is, faulty, member, group, stepOf, groupsOf, sizeOf, after, typedFrom, start, typedOf}
+use Rattle.mends.specs.declared.Step.the-variants.{Stop, Size}
+use Rattle.mends.specs.Typed.{Typed, is, faulty, group, groupsOf, sizeOf, after, typedFrom, typedOf}
 use Rattle.mends.specs.Mend.{mended}
-use Rattle.mends.specs.Report.{reportText, outputText}
-use Rattle.mends.specs.Promise.{Mending, printed, refused, mendTyped, mendSheetUpTo}
+use Rattle.mends.specs.Report.{outputText}
+use Rattle.mends.specs.Promise.{printed, refused, mendTyped, mendSheetUpTo}
+use Rattle.mends.specs.Groups.{sheetGroups}
 use Rattle.mends.proofs.MendedLaws.{mended-division, mended-free}
-use Rattle.mends.proofs.Passing.{sheetGroups, passing-same, passing-silent}
+use Rattle.mends.proofs.Passing.{passing-same, passing-silent}
 use Rattle.mends.proofs.Retyped.{sheet-typed}
 
 pub record Fitting (most longest : ℕ) : Type 0 where

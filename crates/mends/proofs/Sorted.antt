@@ -2,13 +2,13 @@
 --
 --   Sorted g : this, of what is known
 use Prim.Native.Nat.{ℕ, _-_, _≤_, _<_}
-use mathlib.Core.Path.{_≡_, refl, sym, ap, subst, _∙_}
+use mathlib.Core.Path.{_≡_, refl, sym, subst}
 use mathlib.Core.Logic.{_⊎_, inl, inr, ⊎-elim}
-use mathlib.Core.List.{List, [], _∷_, _++_}
-use mathlib.Core.Bool.{Bool, true, false, cond, not, _&&_, _||_}
+use mathlib.Core.List.{List, [], _∷_}
+use mathlib.Core.Bool.{Bool, true, false, not, _||_}
 use native.Mathlib.Omega.{arith}
 use lib.Dec.{T}
-use Rattle.sets.specs.Lists.{put, any, members, over}
+use Rattle.sets.specs.Lists.{any, members, over}
 use Rattle.sets.proofs.TestLaws.{and-l, and-r, or-l, or-r, or-cases, not-t, t-not, T→true, T-ext, T?, any-make}
 use Rattle.sets.proofs.MemberLaws.{members-agree}
 use Rattle.clashes.specs.Matrix.{Valid}
@@ -16,7 +16,8 @@ use Rattle.lines.proofs.Basics.{cond-cases}
 use Rattle.lists.specs.Read.{inside}
 use Rattle.lists.proofs.Fold.{inside-is}
 use Rattle.mends.specs.Mend.{none, with, Going, taken, clashes, lifting, keeping, memberOf, closed, groupOf, start, gone, again}
-use Rattle.mends.proofs.Groups.{has, with-cases, with-old, with-new, Free, AllFree, none-free, with-free, all-free-snoc, has-snoc, has-before, has-last, Apart, apart-snoc}
+use Rattle.mends.specs.Groups.{has, Apart}
+use Rattle.mends.proofs.Groups.{with-cases, with-old, with-new, Free, AllFree, none-free, with-free, all-free-snoc, has-snoc, has-before, has-last, apart-snoc}
 
 -- a member that is not dropped is an entry that was not seen
 pub taken-is : (n : ℕ) (seen : ℕ → Bool) (u : ℕ) → taken n seen u ≡ true → (1 ≤ u) × (u - 1 < n) × ¬ T (seen (u - 1))

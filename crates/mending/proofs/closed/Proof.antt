@@ -1,7 +1,6 @@
 -- `mending::closed` meets its contract: a group of which nothing was kept vanishes, any other one stays. Assumes nothing.
 use mathlib.Core.Path.{refl}
 use native.Mathlib.Omega.{arith}
-use borrow.Author.Needs.{needs}
 use Rattle.mending.proofs.HeldLaws.{vanishes, stays-room, stays-is, stays-fits}
 use Rattle.mending.proofs.closed.Statement.{statement}
 use Rattle.mending.proofs.closed.Tie as tie

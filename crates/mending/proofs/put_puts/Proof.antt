@@ -1,6 +1,5 @@
 -- `mending::put_puts` meets its contract: the lines that are left, put from here, are all of them put at the start (`Left`). Assumes nothing.
 use borrow.Author.Needs.{needs}
-use Prim.Native.Nat.{_≤_, _+_}
 use mathlib.Core.Path.{ap}
 use native.Mathlib.Omega.{arith}
 use lib.ListN.{length}

@@ -1,5 +1,5 @@
 -- `mending::settled` meets its contract: no entry stands in two groups, and each in one. Assumes nothing.
-use mathlib.Core.Path.{ap, subst}
+use mathlib.Core.Path.{subst}
 use Prim.Native.Nat.{ℕ}
 use mathlib.Core.List.{List}
 use mathlib.Core.Bool.{Bool}
@@ -7,7 +7,6 @@ use Rattle.clashes.specs.Matrix.{matrix}
 use Rattle.mends.specs.Mend.{groupPlace}
 use Rattle.mending.specs.Places.{NumberedOf}
 use Rattle.mending.proofs.Answers.{sets-are, sets-apart, sets-all}
-use borrow.Author.Needs.{needs}
 use Rattle.mending.proofs.settled.Statement.{statement}
 use Rattle.mending.proofs.settled.Tie as tie
 

@@ -1,5 +1,5 @@
 -- `mending::with_member` meets its contract: the member is lifted out, kept or dropped. Assumes nothing.
-use mathlib.Core.Path.{_≡_, _∙_, sym}
+use mathlib.Core.Path.{_∙_, sym}
 use native.Mathlib.Omega.{arith}
 use Rattle.sets.specs.Set.{has}
 use Rattle.mends.proofs.Sorted.{taken-is}

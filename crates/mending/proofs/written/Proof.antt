@@ -1,6 +1,6 @@
 -- `mending::written` meets its contract: 19, or the whole output. Assumes nothing.
 use mathlib.Core.Path.{_≡_, refl, sym, ap, subst, _∙_}
-use Prim.Native.Nat.{ℕ, _<_, _≤_, _+_}
+use Prim.Native.Nat.{ℕ, _≤_, _+_}
 use mathlib.Core.List.{List, _++_}
 use lib.ListN.{length, take}
 use native.Mathlib.Omega.{arith}
@@ -8,11 +8,9 @@ use Rattle.sets.specs.Lists.{members}
 use Rattle.sets.specs.Set.{has}
 use Rattle.clashes.specs.Matrix.{matrix}
 use Rattle.lines.specs.Numeral.{Put}
-use Rattle.mends.specs.Mend.{groupPlace}
 use Rattle.mends.specs.Report.{droppedText, putText}
-use Rattle.mending.specs.Held.{goingOf, droppedOf}
-use Rattle.mending.specs.Calls.{mendedOf}
-use Rattle.mending.proofs.Answers.{colours-long, colours-canon, colours-groups, whole-text, whole-length, answered-full, answered-written}
+use Rattle.mending.specs.Held.{droppedOf}
+use Rattle.mending.proofs.Answers.{colours-long, colours-canon, colours-groups, whole-length, answered-full, answered-written}
 use borrow.Author.Needs.{needs}
 use Rattle.mending.proofs.written.Statement.{statement}
 use Rattle.mending.proofs.written.Tie as tie
