@@ -1,5 +1,7 @@
 // What the programs print. slotsheet, for a clash text: the sheet of its fewest sittings, or the refusal in a line. mend, for a clash text and a sheet: what was
 // done and the mended sheet, or the refusal in a line.
+#![tactic(auto)]
+
 ghost use Rattle.std.specs.Prelude.{◌+◌, ◌≤◌, ◌<◌, length};
 ghost use Rattle.clashes.specs.Matrix.{Sound};
 ghost use Rattle.lines.specs.Numeral.{Put};

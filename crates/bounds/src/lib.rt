@@ -1,4 +1,6 @@
 // The two bounds of document 01, at a node and on a lent matrix. The crates above see their names and laws, not their definitions.
+#![tactic(auto)]
+
 ghost use Rattle.std.specs.Prelude.{◌≡◌, leb, length};
 ghost use Rattle.wide.specs.Words.{num, rows_of};
 ghost use Rattle.clashes.specs.Matrix.{Sound};

@@ -1,5 +1,7 @@
 // The library's face for C and the languages that call C: the same calls, answered in document 01's numbers. A lent slice is passed as a pointer
 // and a length. A call whose name ends in `repeats` reads a clash text with repeats allowed. include/slotsheet.h declares these.
+#![tactic(auto)]
+
 ghost use Rattle.std.specs.Prelude.{true, false};
 ghost use Rattle.bounds.specs.Names.{clique_set, clique_bound_lem, mycielskian};
 ghost use Rattle.bounds.specs.Lent.{no_members};

@@ -1,4 +1,6 @@
 // The lent matrix of a clash list, and whether it is one.
+#![tactic(auto)]
+
 ghost use Rattle.std.specs.Prelude.{◌≡◌, true, false, ◌<◌, ◌≤◌, length};
 ghost use Rattle.clashes.specs.Matrix.{HasStray, HasItself, HasOneSided, FirstRow, Judged};
 

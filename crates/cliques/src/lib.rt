@@ -1,4 +1,6 @@
 // The clique of a node: document 01's, grown a clique at a time in words.
+#![tactic(auto)]
+
 ghost use Rattle.std.specs.Prelude.{ℕ, ◌<◌, T};
 ghost use Rattle.sets.specs.Set.{has};
 ghost use Rattle.graphs.specs.Held.{view, Held, Holds, Each};
@@ -9,7 +11,7 @@ use graphs::Node;
 use sets::{below, join, less, lowest, meet, size, with};
 
 // A clique on the way: its members, and the live vertices that it admits.
-#[derive(Drop)]
+#[derive(Clone, Copy)]
 pub struct Growth {
     pub set: u64,
     pub near: u64,

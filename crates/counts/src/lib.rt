@@ -1,5 +1,7 @@
 // In how many rows of a set's members each number below 64 is: all counts at once, as slices. Slice k has the numbers whose count has digit k,
 // so that one operation on words adds to 64 counts.
+#![tactic(auto)]
+
 ghost use Rattle.std.specs.Prelude.{◌≡◌, ◌<◌, length};
 ghost use Rattle.counts.specs.Counts.{Counted, IsMost, IsAtLeast};
 ghost use Rattle.counts.specs.Steps.{IsHalf, IsSum, IsPulled, Fits, Absorbed, IsNarrowed, IsBorrowed};
@@ -7,7 +9,7 @@ ghost use Rattle.counts.specs.Steps.{IsHalf, IsSum, IsPulled, Fits, Absorbed, Is
 use sets::{below, join, less, lowest, meet, rest};
 
 // The count at v has digit k where v is in slice sk. Seven are enough: no count is above 64.
-#[derive(Drop)]
+#[derive(Clone, Copy)]
 pub struct Counts {
     pub s0: u64,
     pub s1: u64,

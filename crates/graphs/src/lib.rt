@@ -1,4 +1,6 @@
 // A node of the walk, held in words: its root, and the pair at which it is split. Its rows are lent; each contract says, by the view, which graph is held.
+#![tactic(auto)]
+
 ghost use Rattle.std.specs.Prelude.{◌≡◌, length};
 ghost use Rattle.sets.specs.Lists.{members, over};
 ghost use Rattle.sets.specs.Set.{has as member};

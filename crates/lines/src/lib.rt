@@ -1,6 +1,8 @@
 // Lines of a text, numbers and words in them, read and written; and a reader that hands out one line at a time.
 // A line is handed out as a part of the lent text: its bytes where they lie, without the line feed. A number has 1 to 7
 // digits and no leading zero. The writers put bytes from a place on and return the place after them; all others stay.
+#![tactic(auto)]
+
 ghost use Rattle.std.specs.Prelude.{◌≡◌, ◌+◌, ◌<◌, ◌≤◌, not, ltb, length};
 ghost use Rattle.lines.specs.Text.{line_end_lem, next_start_lem, place_of};
 ghost use Rattle.lines.specs.Part.{PartOf, LineOf};
@@ -296,7 +298,7 @@ pub fn put_two(out: &mut [u8], at: usize, w: &[u8], u: usize, v: usize) -> usize
 }
 
 // Remembers the lent text, its position and its line number, and hands out one line at a time.
-#[derive(Drop)]
+#[derive(Clone, Copy)]
 pub struct Reader<'a> {
     pub text: &'a [u8],
     pub at: usize,

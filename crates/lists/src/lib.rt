@@ -1,5 +1,7 @@
 // Clash texts in the DIMACS colouring format: read into rows, and written from them.
 // Reading gathers the rows aside and lends nothing back before the whole text is judged. One pass over the text.
+#![tactic(auto)]
+
 ghost use Rattle.std.specs.Prelude.{◌≡◌, ◌++◌, false, cond, ◌&&◌, ◌+◌, ◌-◌, ◌≤◌, ◌<◌, length, take, drop};
 ghost use Rattle.clashes.specs.Matrix.{matrix};
 ghost use Rattle.lines.specs.Number.{digit};
@@ -136,7 +138,7 @@ fn shape_of(s: &[u8]) -> Shape
 }
 
 // What is still expected in a pattern: `at` and what follows it; within a number first some digits more, one less than `digits`, at most.
-#[derive(Drop)]
+#[derive(Clone, Copy)]
 pub struct Due {
     pub at: usize,
     pub digits: usize,

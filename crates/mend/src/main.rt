@@ -5,6 +5,8 @@
 // LIST and SHEET are names of files. It prints what it did and the mended sheet, or "refused R line L", with " column C" where there is a column; then standard
 // error has which text is at fault, and its line. With --repeats the list may have an edge more than once.
 // The program only reads, calls and writes: the very bytes that it prints are the library's answer.
+#![tactic(auto)]
+
 ghost use Rattle.std.specs.Prelude.{◌≤◌, length};
 ghost use Rattle.answers.specs.Mended.{MendedPromise, LongSheetPromise};
 

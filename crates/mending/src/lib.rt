@@ -1,6 +1,8 @@
 // A hand-edited sheet, put right (document 02, Ask 9): the code. What mending is, and what it gives, is in the crate mends.
 // The sheet is gone through once, which finds its own faults and what is kept; the lines to be reported as dropped may be tens of thousands, so they are not
 // held but found again, in a second pass, when the output's length is known and there is room for it.
+#![tactic(auto)]
+
 ghost use Rattle.std.specs.Prelude.{◌≡◌, map, ◌++◌, ◌+◌, ◌*◌, ◌≤◌, ◌<◌, length, take, get_or};
 ghost use Rattle.sets.specs.Lists.{members, over};
 ghost use Rattle.sets.specs.Set.{has as member, size};
@@ -23,7 +25,7 @@ use sheets::SheetFault;
 
 // What is known on the way through a sheet, as sets: the entries seen, those lifted, those kept of this group, and what was kept of each group before it; and
 // how many bytes the report has so far on dropped lines.
-#[derive(Drop)]
+#[derive(Clone, Copy)]
 pub struct Gone {
     pub seen: u64,
     pub lifted: u64,
@@ -48,7 +50,7 @@ pub struct Through {
 }
 
 // So many groups, as sets.
-#[derive(Drop)]
+#[derive(Clone, Copy)]
 pub struct Groups {
     pub sets: [u64; 64],
     pub many: usize,

@@ -1,5 +1,6 @@
 // A hand-edited sheet, put right (document 02, Ask 9): what mending is (specs/) and what it gives (proofs/). No code: the crate mending has that. Here are only
 // the types that both speak of.
+#![tactic(auto)]
 
 // Written, with the length of report and sheet together; refused for the list, with its own refusal, line and column; refused for the sheet, by 18, 30,
 // 35 or 37, with its line (0 where none is named); or refused by 19.

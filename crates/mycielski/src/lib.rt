@@ -1,4 +1,6 @@
 // The Mycielskian bound of a node, in words: H's vertices and edges, S(v) and W are meets and joins of rows.
+#![tactic(auto)]
+
 ghost use Rattle.std.specs.Prelude.{◌≡◌, ◌&&◌, ℕ, ◌<◌, T, length};
 ghost use Rattle.sets.specs.Set.{has, size as size_of};
 ghost use Rattle.graphs.specs.Held.{view, Held, Holds, Each};

@@ -1,5 +1,7 @@
 // Document 02's second engine: a search that never merges. It puts the entries into groups in number order, with a budget of nodes, all on the stack. The
 // groups are one array of sets, which each placing changes and restores.
+#![tactic(auto)]
+
 ghost use Rattle.std.specs.Prelude.{◌≡◌, ◌≤◌, ◌<◌, length};
 ghost use Rattle.placing.specs.Going.{Starts, Ready, Entered, counted as counted_of, more_of};
 ghost use Rattle.placing.specs.Promise.{Promised, Told};

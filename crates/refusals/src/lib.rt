@@ -1,9 +1,11 @@
 // The refusals of documents 01 and 02: their names, the number of each, and what is returned with it.
+#![tactic(auto)]
+
 ghost use Rattle.std.specs.Prelude.{◌≡◌};
 ghost use Rattle.refusals.specs.Table.{number_of, told, told_at};
 
 // The names of document 01's table, in its order, with those of document 02 where their numbers stand. Itself is SELF, SheetLine is SHEET LINE.
-#[derive(Drop)]
+#[derive(Clone, Copy)]
 pub enum Refusal {
     Many,
     Stray,

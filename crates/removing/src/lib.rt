@@ -1,4 +1,6 @@
 // Document 02's Ask 8, "Shrink first", the first half: who is removed before the walk. Sets are words; no two entries are looked at by themselves.
+#![tactic(auto)]
+
 ghost use Rattle.std.specs.Prelude.{◌≡◌, ◌||◌, ◌≤◌, eqb, length};
 ghost use Rattle.std.proofs.Math.Option.{none};
 ghost use Rattle.sets.specs.Lists.{lowest as lowest_of};
@@ -18,7 +20,7 @@ struct Goes {
 }
 
 // A shrunk list: who is present; how many went, who, and the other entry that was noted with each, in order; whether one went by the second rule.
-#[derive(Drop)]
+#[derive(Clone, Copy)]
 pub struct Shrunk {
     pub present: u64,
     pub gone: usize,

@@ -1,4 +1,6 @@
 // Document 02's Ask 8, "Shrink first", the second half: the shrunk list's rows, and putting back who was removed, group by group. Sets are words.
+#![tactic(auto)]
+
 ghost use Rattle.std.specs.Prelude.{◌≡◌, ◌++◌, ◌≤◌, ◌<◌, suc, max, length, drop};
 ghost use Rattle.std.proofs.Math.Decide.{ℕ_discrete};
 ghost use Rattle.clashes.specs.Matrix.{FirstRow};

@@ -1,5 +1,7 @@
 // The seam between what is written once over `words`, 1 or 4, and the two questions that are answered at each width by itself: which pair to split at,
 // and whether the bound reaches the best size. A node's rows of `words` words are lent one after the other.
+#![tactic(auto)]
+
 ghost use Rattle.std.specs.Prelude.{◌≡◌, ◌*◌, leb};
 ghost use Rattle.wide.specs.Words.{num};
 ghost use Rattle.wide.specs.Form.{Form, held};

@@ -1,5 +1,7 @@
 // Sets of numbers below 64, held as the bits of a u64. Each contract is a fact about members, by the one definition `has` on numbers of any
 // width; 64 stands only where a function needs it.
+#![tactic(auto)]
+
 ghost use Rattle.std.specs.Prelude.{◌≡◌, ◌<◌, ◌≤◌};
 ghost use Rattle.sets.specs.Set.{has as member, size as size_of, subset, IsWith, IsWithout, IsJoin, IsMeet, IsLess, IsBelow, IsLowest, IsRest};
 

@@ -1,6 +1,8 @@
 // The sheets of divisions, written: "groups K", then each group's size and members. What is written is accepted by the check against
 // every list that it does not clash with (proofs/Calls.antt).
 // The text is composed aside, in a buffer that every sheet fits, and copied whole: nothing is written where it does not fit.
+#![tactic(auto)]
+
 ghost use Rattle.std.specs.Prelude.{◌≡◌, ◌+◌, ◌≤◌, ◌<◌, length, take};
 ghost use Rattle.clashes.specs.Divisions.{Canon, groups};
 ghost use Rattle.lines.specs.Numeral.{Put};
@@ -19,7 +21,7 @@ pub enum Written {
 }
 
 // Document 01's numbers of an answer; those that it does not name are 0.
-#[derive(Drop)]
+#[derive(Clone, Copy)]
 pub struct Numbers {
     pub number: usize,
     pub index: usize,

@@ -1,5 +1,7 @@
 // Sitting sheets: checked against a clash list, with the line at fault shown as a part of the text that holds it.
 // A check gathers the group numbers aside and lends nothing back before both texts are judged. One pass over each text.
+#![tactic(auto)]
+
 ghost use Rattle.std.specs.Prelude.{◌≡◌, ◌++◌, ◌≤◌, ◌<◌, length, take, drop};
 ghost use Rattle.sets.specs.Set.{has as member};
 ghost use Rattle.clashes.specs.Matrix.{matrix};
@@ -43,7 +45,7 @@ pub struct Outcome {
 }
 
 // Document 01's numbers of an answer; those that it does not name are 0. `text` says which text is at fault.
-#[derive(Drop)]
+#[derive(Clone, Copy)]
 pub struct Numbers {
     pub number: usize,
     pub line: usize,
@@ -61,7 +63,7 @@ pub struct Part {
 }
 
 // What is known of the counts after some lines (specs/Check.antt).
-#[derive(Drop)]
+#[derive(Clone, Copy)]
 pub struct Progress {
     pub begun: bool,
     pub left: usize,

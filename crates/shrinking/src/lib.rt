@@ -1,4 +1,6 @@
 // Document 02's Ask 8, "Shrink first": before the walk entries are removed that need no group of their own, and after it they are put back.
+#![tactic(auto)]
+
 ghost use Rattle.std.specs.Prelude.{◌≡◌, cond, max, length};
 ghost use Rattle.bounds.specs.Names.{mycielskian};
 ghost use Rattle.bounds.specs.Lent.{of_list};

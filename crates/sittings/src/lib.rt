@@ -1,6 +1,8 @@
 // The library's face: every function that a wizard calls. None asks its caller to check anything beforehand, each answers every input by one
 // promise, and none writes to lent memory where it refuses. A call that is given a clash text exists for both readings: the plain one refuses an edge
 // that stands a second time, either way round; the one whose name ends in `repeats` allows it. Both meet one promise.
+#![tactic(auto)]
+
 ghost use Rattle.std.specs.Prelude.{true, false};
 ghost use Rattle.clashes.specs.Matrix.{Judged};
 ghost use Rattle.bounds.specs.Names.{clique_set, clique_bound_lem, mycielskian};

@@ -1,6 +1,8 @@
 // slotsheet: reads a clash text from standard input and prints its sitting sheet, or "refused R line L", with " column C" where there is a column.
 // Started with --repeats it allows an edge to stand more than once; without it such an edge is refused.
 // The program only reads, calls and writes: the very bytes that it prints are the library's answer.
+#![tactic(auto)]
+
 ghost use Rattle.answers.specs.Printed.{AnswerPromise};
 
 use answers::Printed;

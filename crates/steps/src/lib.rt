@@ -1,6 +1,8 @@
 // The steps of document 01's two walks over the Zykov tree, written once for rows of one word and of four. All is lent: the rows and names of a node, in
 // which a merging is done in place and undone; the best division so far; and a trail, on which the pairs that a node has separated stand until its walk
 // goes back.
+#![tactic(auto)]
+
 ghost use Rattle.std.specs.Prelude.{◌≡◌, ◌++◌, ◌*◌, ◌≤◌, ◌<◌, length, drop};
 ghost use Rattle.wide.specs.Words.{num, rows_of};
 ghost use Rattle.wide.specs.Form.{Form, Fits};
@@ -17,7 +19,7 @@ use wide::{Set, below, size, without};
 
 // A walk on its way: the number of groups of the best division, the nodes entered, the complete graphs met, and the budget of nodes; out says that it
 // would have had to enter more.
-#[derive(Drop)]
+#[derive(Clone, Copy)]
 pub struct State {
     pub k: usize,
     pub nodes: u64,

@@ -1,4 +1,6 @@
 // What the trials have in common: what they print, and whether lent memory that nobody wrote is as it was.
+#![tactic(auto)]
+
 use libc::STDOUT_FILENO;
 use refusals::Refusal;
 

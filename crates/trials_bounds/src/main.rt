@@ -1,6 +1,8 @@
 // The two bounds of lists whose bounds are known: document 01's starred lists and refusals, Mycielski's and the queens' graphs, the empty and the
 // complete list of 64. A line for each: the clique bound, then the Mycielskian. What it writes is held to the file stdout; tests/bound_lists.py has
 // the constructions that the rows come from.
+#![tactic(auto)]
+
 use bounds::Bound;
 use refusals::Refusal;
 

@@ -1,6 +1,8 @@
 // Awkward clash texts from standard input, and what both readings answer to each; each accepted list, and some matrices, written again.
 // Before each text stands a line "R B": how many rows are lent, and how many bytes the text has. What this writes is held to the file
 // stdout, which tests/awkward_texts.py makes from the papers alone.
+#![tactic(auto)]
+
 ghost use Rattle.std.specs.Prelude.{◌≡◌, ◌≤◌, length};
 ghost use Rattle.trials_lists.specs.Case.{Within};
 

@@ -3,6 +3,8 @@
 // Before each pair stand a line "L S", how many bytes the list and the sheet have, and a line with how many colour bytes are lent. After
 // them, the sheets of some colour bytes. What this writes is held to the file stdout, which tests/awkward_sheets.py makes from document
 // 01 alone.
+#![tactic(auto)]
+
 ghost use Rattle.std.specs.Prelude.{◌≡◌, ◌≤◌, length};
 ghost use Rattle.trials_sheets.specs.Case.{Within};
 

@@ -1,5 +1,7 @@
 // Lent matrices and what `validity` answers: the number of document 01, 0 where the matrix is valid, and the row, 0 where none is named. A line
 // for each. What it writes is held to the file stdout, which follows from document 01.
+#![tactic(auto)]
+
 use clashes::Verdict;
 use refusals::Refusal;
 

@@ -1,5 +1,7 @@
 // Both walks of lists from their constructions: a line for each, k, nodes and complete graphs, or the refusal. What it writes is held to the file
 // stdout, which tests/walk_lists.py makes from document 01 alone; the rows below are its too.
+#![tactic(auto)]
+
 use refusals::Refusal;
 use walk::Answer;
 

@@ -2,6 +2,8 @@
 // whether it is reached, and the pair of the pair rule. A list is lines of two numbers: how many entries there are, and 0 where the pairs that follow
 // clash, 1 where they are the ones that do not; then the pairs, and at the end a pair of one entry twice. Rows are made pair by pair, and hold a valid
 // list all the while. What this writes is held to the file stdout; tests/wide_lists.py makes both files from the lists' constructions and document 01.
+#![tactic(auto)]
+
 ghost use Rattle.std.specs.Prelude.{◌≡◌, ℕ, ◌≤◌, ◌<◌, length};
 ghost use Rattle.clashes.specs.Matrix.{Valid, matrix};
 ghost use Rattle.wide.specs.Words.{rows_of};

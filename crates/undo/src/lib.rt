@@ -1,5 +1,7 @@
 // Rows and names changed in place and changed back: what a merging needs to be undone, separated pairs on a trail, and names as a forest in which each
 // entry points to the one that it was merged into. Rows have one word or four (`words`), and are what `held` says.
+#![tactic(auto)]
+
 ghost use Rattle.std.specs.Prelude.{◌≡◌, ◌⊎◌, ◌+◌, ◌*◌, ◌%◌, ◌≤◌, ◌<◌, length};
 ghost use Rattle.wide.specs.Words.{num};
 ghost use Rattle.wide.specs.Form.{Form, held, Fits};

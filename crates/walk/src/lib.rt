@@ -1,4 +1,6 @@
 // Document 01's two walks over the Zykov tree of a lent clash list, each with a budget of nodes: who is admitted, and what is told.
+#![tactic(auto)]
+
 ghost use Rattle.std.specs.Prelude.{◌≡◌, ◌≤◌, length};
 ghost use Rattle.bounds.specs.Names.{mycielskian};
 ghost use Rattle.zykov.specs.Walk.{bounded_walk_lem, plain_walk_lem};

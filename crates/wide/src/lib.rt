@@ -1,13 +1,15 @@
 // Sets of numbers below 256, held in four words. Each contract is that of the crate `sets` on the number that the words are (`num`), so the laws of
 // sets of any width say all that is known of them. Then rows that are lent in one word each or in four: `words` says which, and `held` which numbers
 // they are.
+#![tactic(auto)]
+
 ghost use Rattle.std.specs.Prelude.{◌≡◌, ℕ, ◌<◌, ◌≤◌, ◌+◌, ◌*◌, eqb, ltb, length, get_or, set, true, false};
 ghost use Rattle.sets.specs.Set.{has as member, size as size_of, IsWith, IsWithout, IsJoin, IsMeet, IsLess, IsBelow, IsLowest, IsRest};
 ghost use Rattle.wide.specs.Words.{num, rows_of};
 ghost use Rattle.wide.specs.Form.{Form, held, Fits, Marked, Unmarked};
 
 // The words, lowest first.
-#[derive(Drop)]
+#[derive(Clone, Copy)]
 pub struct Set {
     pub a: u64,
     pub b: u64,

@@ -1,0 +1,51 @@
+-- `lists::put_row` meets its contract: the lines that are left, put from here, are all of them put at the start (`Left`). Assumes nothing.
+use Prim.Native.Nat.{◌+◌, ◌-◌}
+use mathlib.Core.Path.{sym, ap, ◌∙◌}
+use mathlib.Core.Logic.{⊎_elim}
+use Rattle.lines.specs.Numeral.{two_line}
+use Rattle.lines.proofs.Writing.{Left, left_begin, left_room, left_put, left_skip, left_none, two_length}
+use Rattle.lists.specs.Shape.{e_word}
+use Rattle.lists.specs.Edges.{row_edges}
+use Rattle.lists.specs.Write.{edges_text}
+use Rattle.lists.proofs.EdgeLaws.{edge_line, no_line, row_end}
+use native.Mathlib.Omega.{arith}
+use Rattle.lists.proofs.put_row.Goals as goal
+
+stepped : (c : goal.Joined-has) →
+    let a = c.args in
+    let b = c.loop-j in
+    Left a.out.now a.at (edges_text (row_edges a.row a.i (a.i + 1) (a.n - (a.i + 1)))) c.if-has.out c.if-has.a (edges_text (row_edges a.row a.i (b.j + 1) (a.n - (b.j + 1))))
+stepped c =
+    let a = c.args in
+    let b = c.loop-j in
+    ⊎_elim
+    (λ w. rw (w.6, w.7)
+    (left_put _ _ _ b.out b.a _ b.invariant.2 (two_line e_word (a.i + 1) (b.j + 1)) _
+    (edge_line a.row a.i b.j a.n c.loop-j-test.true (sym c.has.ensures ∙ w.0.taken)) _ _ w.3.ensures))
+    (λ w. rw (w.1, w.2)
+    (left_skip _ _ _ b.out b.a _ b.invariant.2 _ (no_line a.row a.i b.j a.n c.loop-j-test.true (sym c.has.ensures ∙ w.0.left))))
+    c.if-has.branch
+
+pub loop-j-init : goal.loop-j-init
+loop-j-init c = (omega arith, omega arith, left_begin c.args.out.now c.args.at _ c.requires.1)
+
+pub put_two-a-requires : goal.put_two-a-requires
+put_two-a-requires c =
+    let a = c.args in
+    let b = c.loop-j in
+    let r = left_room _ _ _ b.out b.a _ b.invariant.2 (two_line e_word (a.i + 1) (b.j + 1)) _
+    (edge_line a.row a.i b.j a.n c.loop-j-test.true
+    (sym c.has.ensures ∙ c.if-has.true)) in
+    ((omega arith, omega arith), omega (arith, two_length e_word (a.i + 1) (b.j + 1), two_length e_word (b.j + 1) (a.i + 1)))
+
+pub loop-j-preserved : goal.loop-j-preserved
+loop-j-preserved c = let t = stepped (goal.at.loop-j-preserved c).Joined-has in (omega arith, omega arith, t)
+
+pub shape_of-out : goal.shape_of-out
+shape_of-out c = c.loop-j.invariant.2.same
+
+pub returns : goal.returns
+returns c =
+    let a = c.args in
+    let b = c.loop-j in
+    left_none _ _ _ b.out b.a _ b.invariant.2 (ap edges_text (row_end a.row a.i b.j a.n c.loop-j-test.false))

@@ -1,0 +1,11 @@
+use Prim.Native.Nat.{◌+◌, ◌-◌, ◌≤◌, ◌<◌}
+use Rattle.lines.proofs.Writing.{Left}
+use Rattle.lists.specs.Edges.{row_edges}
+use Rattle.lists.specs.Write.{edges_text}
+use Rattle.lists.proofs.put_row.Given as goal
+
+abbrev pub invariant-loop-j : goal.invariant-loop-j
+invariant-loop-j l = (l.i < j) × (j ≤ l.n) × Left l.initial.out l.at (edges_text (row_edges l.row l.i (l.i + 1) (l.n - (l.i + 1)))) l.a l.j (edges_text (row_edges l.row l.i j (l.n - j)))
+
+abbrev pub decreases-loop-j : goal.decreases-loop-j
+decreases-loop-j l = l.n - j

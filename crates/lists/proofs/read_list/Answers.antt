@@ -1,0 +1,30 @@
+-- `lists::read_list` meets its contract: so many rows are copied as the answer accepts. Assumes nothing.
+use Prim.Native.Nat.{ℕ}
+use mathlib.Core.Path.{◌≡◌, sym, ap, ◌∙◌}
+use mathlib.Core.Logic.{⊎_elim}
+use lib.ListN.{length}
+use Rattle.lists.specs.Read.{most_entries, longest_text}
+use Rattle.lists.proofs.Answers.{stored, stored_fits, stored_promise}
+use borrow.Author.Rules.{rules}
+use native.Mathlib.Omega.{arith}
+use Rattle.lists.proofs.read_list.Goals as goal
+
+-- where the arms meet: none where refused, n where accepted
+counted : (c : goal.Joined-answer) → (◌≡◌ {A = ℕ} c.match-answer.stored (stored c.gather-found.result.answer)) × (c.match-answer.answer ≡ c.gather-found.result.answer)
+counted c = ⊎_elim (λ w. (w.4 ∙ sym (ap stored w.1.given.1), w.3 ∙ sym w.1.given.1)) (λ w. (w.3 ∙ sym (ap stored w.1.given.1), w.2)) c.match-answer.branch
+
+pub copy_rows-requires : goal.copy_rows-requires
+copy_rows-requires c =
+    let a = c.args in
+    let b = stored_fits a.plain most_entries longest_text a.text.now a.rows.now _ c.gather-found.ensures _
+    (counted (goal.at.copy_rows-requires c).Joined-answer).0 in
+    let z : length c.gather-found.result.rows ≡ 64 = search rules in
+    (omega arith, b.1)
+
+pub returns : goal.returns
+returns c =
+    let a = c.args in
+    stored_promise a.plain most_entries longest_text a.text.now a.rows.now _
+    c.gather-found.ensures _
+    (counted (goal.at.returns c).Joined-answer).0 _ _ (counted (goal.at.returns c).Joined-answer).1
+    c.copy_rows.ensures

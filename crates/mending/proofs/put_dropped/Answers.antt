@@ -1,0 +1,101 @@
+-- `mending::put_dropped` meets its contract: the lines that are left of the sheet, put from here, are all of them put at the start (`Left`).
+-- Assumes nothing.
+use Prim.Native.Nat.{ℕ, ◌+◌, ◌-◌}
+use mathlib.Core.Path.{sym, ap, subst, ◌∙◌}
+use mathlib.Core.Logic.{⊎_elim}
+use mathlib.Core.Bool.{Bool}
+use native.Mathlib.Omega.{arith}
+use lib.ListN.{drop}
+use Rattle.sets.specs.Set.{has}
+use Rattle.lines.specs.Text.{lines_of}
+use Rattle.lines.proofs.Writing.{Left, left_begin, left_none}
+use Rattle.sheets.proofs.Sets.{empty_is}
+use Rattle.mends.specs.Typed.{start}
+use Rattle.mends.specs.Report.{dropped_text}
+use Rattle.mending.specs.Held.{dropped_at, dropped_of}
+use Rattle.mending.proofs.Turns.{ends_drops, halts_drops, turn_drops}
+use Rattle.mending.proofs.Reports.{drops_groups, drops_size, drops_room, drops_member}
+use Rattle.mending.proofs.put_dropped.Goals as goal
+
+turned : (c : goal.Joined-line_step) →
+    let a = c.args in
+    let e = c.line_end-e.result in
+    Left a.out.now 0 (dropped_text (dropped_of a.n a.sheet.now)) c.match-line_step.out c.match-line_step.a
+    (dropped_text (dropped_at a.n (lines_of (drop (e + 1) a.sheet.now)) (c.loop-at.line + 1) c.match-line_step.c (has c.match-line_step.seen)))
+turned c =
+    let a = c.args in
+    let e = c.line_end-e in
+    let l = c.if-sheet-e.false in
+    let st = sym c.line_step.ensures in
+    ⊎_elim
+    (λ w. drops_groups a.n a.sheet.now c.loop-at.at e.result c.loop-at.line c.loop-at.c c.loop-at.seen e.ensures.0 l
+    a.out.now _ c.loop-at.out c.loop-at.a c.loop-at.invariant.2 w.1.given.0.0 (st ∙ w.1.given.1) _ _ _ _ w.3 w.4 w.5 w.6)
+    (λ v. ⊎_elim
+    (λ w. drops_size a.n a.sheet.now c.loop-at.at e.result c.loop-at.line c.loop-at.c c.loop-at.seen e.ensures.0 l
+    a.out.now _ c.loop-at.out c.loop-at.a c.loop-at.invariant.2 w.1.given.0.0 (st ∙ w.1.given.1) _ _ _ _ w.3 w.4 w.5 w.6)
+    (λ w. drops_member a.n a.sheet.now c.loop-at.at e.result c.loop-at.line c.loop-at.c c.loop-at.seen e.ensures.0 l
+    a.out.now _ c.loop-at.out c.loop-at.a c.loop-at.invariant.2 w.1.given.0.0 w.1.given.0.1.0 (st ∙ w.1.given.1)
+    _ _ w.4.ensures _ w.7.ensures _ _ _ _ w.8 w.9 w.10 w.11) v)
+    c.match-line_step.branch
+
+pub loop-at-init : goal.loop-at-init
+loop-at-init c =
+    let w = dropped_text (dropped_of c.args.n c.args.sheet.now) in (
+      omega arith,
+      omega arith,
+      subst (λ (p : ℕ → Bool). Left c.args.out.now 0 w c.args.out.now 0 (dropped_text (dropped_at c.args.n (lines_of c.args.sheet.now) 1 start p))) (sym empty_is)
+          (left_begin c.args.out.now 0 w (omega (arith, c.requires.2))),
+    )
+
+pub shape_of-out-then-sheet-e : goal.shape_of-out-then-sheet-e
+shape_of-out-then-sheet-e c = c.loop-at.invariant.2.same
+
+pub returns-then-sheet-e : goal.returns-then-sheet-e
+returns-then-sheet-e c =
+    let a = c.args in
+    let b = c.loop-at in
+    left_none a.out.now 0 _ b.out b.a _ b.invariant.2 (ap dropped_text (halts_drops a.sheet.now b.at b.line b.c _ c.line_end-e.ensures.0
+    c.loop-at-test.true c.if-sheet-e.true a.n (has b.seen)))
+
+pub shape_of-out-in-Stop : goal.shape_of-out-in-Stop
+shape_of-out-in-Stop c = c.loop-at.invariant.2.same
+
+pub returns-in-Stop : goal.returns-in-Stop
+returns-in-Stop c =
+    let a = c.args in
+    let b = c.loop-at in
+    left_none a.out.now 0 _ b.out b.a _ b.invariant.2 (ap dropped_text (turn_drops a.sheet.now b.at b.line b.c _ c.line_end-e.ensures.0
+    c.if-sheet-e.false _ (sym c.line_step.ensures ∙ c.in-Stop.is) a.n (has b.seen)))
+
+pub put_drop-a-requires : goal.put_drop-a-requires
+put_drop-a-requires c =
+    let b = c.loop-at in (
+      c.requires.0,
+      omega (arith, c.requires.1, b.invariant.0, b.invariant.1),
+      drops_room c.args.n c.args.sheet.now b.at _ b.line b.c b.seen c.line_end-e.ensures.0 c.if-sheet-e.false
+          c.args.out.now _ b.out b.a b.invariant.2 _ _ (sym c.line_step.ensures ∙ c.in-Member.is),
+    )
+
+pub overflow_add-at : goal.overflow_add-at
+overflow_add-at c = omega (arith, c.line_end-e.ensures.0)
+
+pub overflow_add-line : goal.overflow_add-line
+overflow_add-line c = omega (arith, c.requires.1, c.loop-at.invariant.0, c.loop-at.invariant.1)
+
+pub loop-at-smaller : goal.loop-at-smaller
+loop-at-smaller c = omega (arith, c.line_end-e.ensures.0)
+
+pub loop-at-preserved : goal.loop-at-preserved
+loop-at-preserved c =
+    let b = c.loop-at in
+    let e = c.line_end-e in
+    (omega arith, omega (arith, e.ensures.0, b.invariant.1), turned (goal.at.loop-at-preserved c).Joined-line_step)
+
+pub shape_of-out : goal.shape_of-out
+shape_of-out c = c.loop-at.invariant.2.same
+
+pub returns : goal.returns
+returns c =
+    let a = c.args in
+    let b = c.loop-at in
+    left_none a.out.now 0 _ b.out b.a _ b.invariant.2 (ap dropped_text (ends_drops a.sheet.now b.at b.line b.c c.loop-at-test.false a.n (has b.seen)))

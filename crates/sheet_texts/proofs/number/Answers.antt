@@ -1,0 +1,38 @@
+-- `sheet_texts::number` meets its contract: what is left of the bytes, numbered after so many, is what the whole is. Assumes nothing.
+use Prim.Native.Nat.{◌≤◌, ◌+◌, ◌-◌}
+use mathlib.Core.Path.{◌≡◌, sym, refl, ◌∙◌}
+use mathlib.Core.Logic.{⊎_elim}
+use lib.ListN.{drop}
+use native.Mathlib.Omega.{arith}
+use Rattle.sheet_texts.specs.Sheet.{number_from, numbering}
+use Rattle.sheet_texts.proofs.FirstUse.{number_wrong, number_new, number_old, number_end}
+use Rattle.sheet_texts.proofs.number.Goals as goal
+
+stepped : (c : goal.Joined-g-used) →
+    let s = c.args.colours.now in
+    let i = c.loop-i.i in
+    (c.if-g-used.used ≤ i + 1) × (number_from c.if-g-used.used (i + 1) (drop (i + 1) s) ≡ numbering s)
+stepped c =
+    let s = c.args.colours.now in
+    let b = c.loop-i in
+    let l = c.loop-i-test.true in
+    let g = c.wide-g.ensures in
+    ⊎_elim
+    (λ w. (omega arith, rw w.1 (sym (number_new s b.used b.i _ l g w.0.taken) ∙ b.invariant.2)))
+    (λ w. (omega arith, rw w.1 (sym (number_old s b.used b.i _ l g c.if-used-g.false w.0.left) ∙ b.invariant.2)))
+    c.if-g-used.branch
+
+pub loop-i-init : goal.loop-i-init
+loop-i-init c = (omega arith, omega arith, refl)
+
+pub returns-then-used-g : goal.returns-then-used-g
+returns-then-used-g c =
+    sym (number_wrong c.args.colours.now c.loop-i.used
+    c.loop-i.i _ c.loop-i-test.true c.wide-g.ensures c.if-used-g.true)
+    ∙ c.loop-i.invariant.2
+
+pub loop-i-preserved : goal.loop-i-preserved
+loop-i-preserved c = let t = stepped (goal.at.loop-i-preserved c).Joined-g-used in (omega arith, t.0, t.1)
+
+pub returns : goal.returns
+returns c = sym (number_end c.args.colours.now c.loop-i.used c.loop-i.i c.loop-i-test.false) ∙ c.loop-i.invariant.2

@@ -1,0 +1,48 @@
+-- `sheet_texts::put_members` meets its contract: the lines that are left, put from here, are all of them put at the start (`Left`). Assumes nothing.
+use Prim.Native.Nat.{◌+◌, ◌-◌}
+use mathlib.Core.Path.{ap}
+use mathlib.Core.List.{[]}
+use mathlib.Core.Logic.{⊎_elim}
+use lib.ListN.{drop}
+use native.Mathlib.Omega.{arith}
+use Rattle.lines.specs.Numeral.{one_line}
+use Rattle.lines.proofs.Writing.{Left, left_begin, left_room, left_put, left_skip, left_none}
+use Rattle.sheet_texts.specs.Sheet.{members_of, member_lines}
+use Rattle.sheet_texts.proofs.Members.{member_yes, member_no, member_end}
+use Rattle.sheet_texts.proofs.put_members.Goals as goal
+
+stepped : (c : goal.Joined-wide-g) →
+    let a = c.args in
+    let b = c.loop-i in
+    Left a.out.now a.at (member_lines (members_of a.colours.now 0 a.g)) c.if-wide-g.out c.if-wide-g.a (member_lines (members_of (drop (b.i + 1) a.colours.now) (b.i + 1) a.g))
+stepped c =
+    let a = c.args in
+    let b = c.loop-i in
+    let l = c.loop-i-test.true in
+    let x = c.wide.ensures in
+    ⊎_elim
+    (λ w. rw (w.6, w.7) (left_put _ _ _ b.out b.a _ b.invariant.1 (one_line [] (b.i + 1)) _ (ap member_lines (member_yes a.colours.now b.i a.g _ l x w.0.taken)) _ _ w.3.ensures))
+    (λ w. rw (w.1, w.2) (left_skip _ _ _ b.out b.a _ b.invariant.1 _ (ap member_lines (member_no a.colours.now b.i a.g _ l x w.0.left))))
+    c.if-wide-g.branch
+
+pub loop-i-init : goal.loop-i-init
+loop-i-init c = (omega arith, left_begin c.args.out.now c.args.at _ c.requires.1)
+
+pub put_one-a-requires : goal.put_one-a-requires
+put_one-a-requires c =
+    let a = c.args in
+    let b = c.loop-i in (
+      omega arith,
+      left_room a.out.now a.at _ b.out b.a _ b.invariant.1 (one_line [] (b.i + 1)) _
+          (ap member_lines (member_yes a.colours.now b.i a.g _ c.loop-i-test.true c.wide.ensures
+          c.if-wide-g.true)),
+    )
+
+pub loop-i-preserved : goal.loop-i-preserved
+loop-i-preserved c = (omega arith, stepped (goal.at.loop-i-preserved c).Joined-wide-g)
+
+pub shape_of-out : goal.shape_of-out
+shape_of-out c = c.loop-i.invariant.1.same
+
+pub returns : goal.returns
+returns c = let a = c.args in let b = c.loop-i in left_none _ _ _ b.out b.a _ b.invariant.1 (ap member_lines (member_end a.colours.now b.i a.g c.loop-i-test.false))

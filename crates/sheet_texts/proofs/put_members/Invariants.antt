@@ -1,0 +1,11 @@
+use Prim.Native.Nat.{◌≤◌, ◌-◌}
+use lib.ListN.{length, drop}
+use Rattle.lines.proofs.Writing.{Left}
+use Rattle.sheet_texts.specs.Sheet.{members_of, member_lines}
+use Rattle.sheet_texts.proofs.put_members.Given as goal
+
+abbrev pub invariant-loop-i : goal.invariant-loop-i
+invariant-loop-i l = (i ≤ length l.colours) × Left l.initial.out l.at (member_lines (members_of l.colours 0 l.g)) l.a l.i (member_lines (members_of (drop i l.colours) i l.g))
+
+abbrev pub decreases-loop-i : goal.decreases-loop-i
+decreases-loop-i l = length l.colours - i

@@ -1,0 +1,20 @@
+-- `sittings::numbers::of_list` meets its contract: each way out is a case of `list_numbers`. Assumes nothing.
+use Rattle.sittings.proofs.numbers.of_list.Goals as goal
+
+pub returns-in-Length : goal.returns-in-Length
+returns-in-Length c = simp c.in-Length.is
+
+pub returns-in-Many : goal.returns-in-Many
+returns-in-Many c = simp (c.number.ensures, c.in-Many.is)
+
+pub returns-in-Stray : goal.returns-in-Stray
+returns-in-Stray c = simp (c.number-in-Stray.ensures, c.in-Stray.is)
+
+pub returns-in-Itself : goal.returns-in-Itself
+returns-in-Itself c = simp (c.number-in-Itself.ensures, c.in-Itself.is)
+
+pub returns-in-OneSided : goal.returns-in-OneSided
+returns-in-OneSided c = simp (c.number-in-OneSided.ensures, c.in-OneSided.is)
+
+pub returns-in-Full : goal.returns-in-Full
+returns-in-Full c = simp (c.number-in-Full.ensures, c.in-Full.is)

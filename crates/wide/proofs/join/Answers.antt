@@ -1,0 +1,13 @@
+-- `wide::join` meets its contract, word by word. Assumes nothing.
+use mathlib.Core.Path.{refl}
+use mathlib.Core.Bool.{◌||◌}
+use borrow.Author.Rules.{rules}
+use Rattle.wide.specs.Words.{num}
+use Rattle.wide.proofs.WideLaws.{op_four, or_word}
+use Rattle.wide.proofs.join.Goals as goal
+
+pub returns : goal.returns
+unfolding num
+returns c =
+    op_four ◌||◌ refl (or_word (search rules) (search rules)) (or_word (search rules) (search rules))
+    (or_word (search rules) (search rules)) (or_word (search rules) (search rules))
