@@ -8,12 +8,13 @@ use Rattle.lines.specs.Numeral.{Put}
 use Rattle.answers.proofs.Laws.{wrote, full}
 use borrow.Author.Rules.{rules}
 use Rattle.answers.proofs.fit.Goals as goal
+use Rattle.answers.proofs.fit.Goals.{After-bytes-1}
 
 -- the bytes that are put
-bytes_long : (c : goal.After-bytes-1) → length c.args.text.bytes ≡ 768
+bytes_long : (c : After-bytes-1) → length c.args.text.bytes ≡ 768
 bytes_long c = search rules
 
-taken : (c : goal.After-bytes-1) → let t = c.args.text in length (take t.length t.bytes) ≡ t.length
+taken : (c : After-bytes-1) → let t = c.args.text in length (take t.length t.bytes) ≡ t.length
 taken c = simp (length-take) (omega (arith, bytes_long c, c.requires))
 
 pub slice_bounds-bytes-end : goal.slice_bounds-bytes-end

@@ -12,9 +12,10 @@ use Rattle.answers.specs.Printed.{refused_text, printed, IsText, Writes}
 use Rattle.answers.proofs.Laws.{number_small}
 use Rattle.answers.proofs.MendLaws.{mended_written, mended_unread, mended_refused, mended_full}
 use Rattle.answers.proofs.mended.Goals as goal
+use Rattle.answers.proofs.mended.Goals.{After-mend_sheet-a}
 
 -- what is promised of the answer that mending gave
-promised : (c : goal.After-mend_sheet-a) (a : Mended) → c.mend_sheet-a.result ≡ a
+promised : (c : After-mend_sheet-a) (a : Mended) → c.mend_sheet-a.result ≡ a
     → let g = c.args in MendPromise g.plain g.list.now g.sheet.now g.out.now a c.mend_sheet-a.new.1.1.0
 promised c a e =
     let g = c.args in

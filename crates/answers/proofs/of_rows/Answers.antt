@@ -12,20 +12,21 @@ use Rattle.walk.specs.declared.Answer.TheVariants.{Accepted}
 use Rattle.answers.specs.Printed.{budget, refused_text, IsText}
 use Rattle.answers.proofs.Laws.{rows_accepted, rows_refused}
 use Rattle.answers.proofs.of_rows.Goals as goal
+use Rattle.answers.proofs.of_rows.Goals.{After-colours-in-Accepted-1}
 
 -- the walk was accepted with these numbers, and left these bytes
-accepted : (c : goal.After-colours-in-Accepted-1)
+accepted : (c : After-colours-in-Accepted-1)
     → let g = c.a-1.given.0 in
     Promised (bounded_walk_lem mycielskian) c.args.rows.now (replicate 64 0) budget (Accepted g.0 g.1.0 g.1.1.0 g.1.1.1.0) c.fewest-a.new.1.0
 accepted c =
     subst (λ (x : Answer). Promised (bounded_walk_lem mycielskian) c.args.rows.now (replicate 64 0) budget x c.fewest-a.new.1.0) c.in-Accepted.is c.fewest-a.ensures
 
 pub slice_bounds-compose-end : goal.slice_bounds-compose-end
-slice_bounds-compose-end c = sym (accepted (goal.at.slice_bounds-compose-end c).After-colours-in-Accepted-1).division.long
+slice_bounds-compose-end c = sym (accepted c).division.long
 
 pub compose-requires : goal.compose-requires
 compose-requires c =
-    let p = accepted (goal.at.compose-requires c).After-colours-in-Accepted-1 in
+    let p = accepted c in
     (omega (arith, p.division.long, p.opened.sound.apart.inside.few), p.division.numbered, sym p.many)
 
 pub returns-in-Accepted : goal.returns-in-Accepted

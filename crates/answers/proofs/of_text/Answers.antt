@@ -10,17 +10,18 @@ use Rattle.refusals.specs.declared.Refusal.{Refusal}
 use Rattle.answers.specs.Printed.{refused_text, IsText}
 use Rattle.answers.proofs.Laws.{number_small, line_small, column_small, printed_read, printed_numbers, list_sound, list_few}
 use Rattle.answers.proofs.of_text.Goals as goal
+use Rattle.answers.proofs.of_text.Goals.{In-Read}
 
 -- the list has at most 64 entries, and as many rows are handed over
-few : (c : goal.In-Read) → c.in-Read.n ≤ 64
+few : (c : In-Read) → c.in-Read.n ≤ 64
 few c =
     list_few c.args.plain c.args.text.now c.gather-found.result c.gather-found.ensures _ c.in-Read.is
 
-rows_long : (c : goal.In-Read) → length c.gather-found.result.rows ≡ 64
+rows_long : (c : In-Read) → length c.gather-found.result.rows ≡ 64
 rows_long c = search rules
 
 pub slice_bounds-rows-end : goal.slice_bounds-rows-end
-slice_bounds-rows-end c = omega (arith, few (goal.at.slice_bounds-rows-end c).In-Read, rows_long (goal.at.slice_bounds-rows-end c).In-Read)
+slice_bounds-rows-end c = omega (arith, few c, rows_long c)
 
 pub slice_bounds-of_rows-end : goal.slice_bounds-of_rows-end
 slice_bounds-of_rows-end c = simp (length-take) (omega (arith, few (goal.at.slice_bounds-of_rows-end c).In-Read, rows_long (goal.at.slice_bounds-of_rows-end c).In-Read))

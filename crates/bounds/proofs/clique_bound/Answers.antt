@@ -10,13 +10,14 @@ use Rattle.bounds.specs.Lent.{Answers}
 use Rattle.bounds.proofs.LentLaws.{by_tag, accepted, refused}
 use Rattle.bounds.proofs.BoundLaws.{clique_size}
 use Rattle.bounds.proofs.clique_bound.Goals as goal
+use Rattle.bounds.proofs.clique_bound.Goals.{In-Valid}
 
 -- the rows are a list's
-sound : (c : goal.In-Valid) → Judged c.args.rows.now Valid
+sound : (c : In-Valid) → Judged c.args.rows.now Valid
 sound c = subst (Judged c.args.rows.now) c.in-Valid.is c.validity-v.ensures
 
 pub clique_of-members-requires : goal.clique_of-members-requires
-clique_of-members-requires c = sound (goal.at.clique_of-members-requires c).In-Valid
+clique_of-members-requires c = sound c
 
 pub returns-in-Valid : goal.returns-in-Valid
 returns-in-Valid c =

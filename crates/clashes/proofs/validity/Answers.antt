@@ -3,13 +3,14 @@ use native.Mathlib.Omega.{arith}
 use Rattle.clashes.specs.Matrix.{Inside, Apart}
 use Rattle.clashes.proofs.MatrixLaws.{first_lowest, first_none}
 use Rattle.clashes.proofs.validity.Goals as goal
+use Rattle.clashes.proofs.validity.Goals.{Else-itself-n, Else-stray-n}
 
 -- no row is stray
-inside : (c : goal.Else-stray-n) → Inside c.args.rows.now
+inside : (c : Else-stray-n) → Inside c.args.rows.now
 inside c = record { few = omega arith; no_stray = first_none _ _ _ c.first_stray-stray.ensures c.if-stray-n.false }
 
 -- and none has its own bit
-apart : (c : goal.Else-itself-n) → Apart c.args.rows.now
+apart : (c : Else-itself-n) → Apart c.args.rows.now
 apart c = record { inside = inside c; no_itself = first_none _ _ _ c.first_itself-itself.ensures c.if-itself-n.false }
 
 pub returns-then-stray-n : goal.returns-then-stray-n

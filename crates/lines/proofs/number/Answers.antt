@@ -8,8 +8,9 @@ use Rattle.lines.specs.Number.{digits, value}
 use Rattle.lines.proofs.Numbers.{digits_more, digits_low, digits_high, digits_end, ten_more, ten_cap, number_is, number_not, digits_done, proper_none, proper_long, proper_zero, proper_zeros, proper_other}
 use native.Mathlib.Omega.{arith}
 use Rattle.lines.proofs.number.Goals as goal
+use Rattle.lines.proofs.number.Goals.{Left-loop-i}
 
-left : (c : goal.Left-loop-i) → (length (digits c.args.s.now) ≡ c.loop-i.i) × (value 0 (digits c.args.s.now) ≡ c.loop-i.v)
+left : (c : Left-loop-i) → (length (digits c.args.s.now) ≡ c.loop-i.i) × (value 0 (digits c.args.s.now) ≡ c.loop-i.v)
 left c =
     let s = c.args.s.now in
     let i = c.loop-i.i in

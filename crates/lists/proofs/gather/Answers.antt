@@ -11,19 +11,20 @@ use Rattle.lists.specs.declared.Spot.{Spot}
 use Rattle.lists.proofs.Fold.{read_halts, read_ends, read_short, read_long, turn, Turned, ends_below, repeated, turned_go, turned_edge}
 use native.Mathlib.Omega.{arith}
 use Rattle.lists.proofs.gather.Goals as goal
+use Rattle.lists.proofs.gather.Goals.{After-apply, Else-text-e, In-Edge, Joined-apply}
 
 -- the line has its line feed
-closed : (c : goal.Else-text-e) → c.line_end-e.result < length c.args.text.now
+closed : (c : Else-text-e) → c.line_end-e.result < length c.args.text.now
 closed c = omega arith
 
 -- the line's step is the definition's
-stepped : (c : goal.After-apply) →
+stepped : (c : After-apply) →
     let a = c.args in
     let l = take (c.line_end-e.result - c.loop-at.at) (drop c.loop-at.at a.text.now) in
     step_of c.loop-at.h a.room (spot_of l) (shape_of l) ≡ c.apply.result
 stepped c = sym c.apply.ensures
 
-turned : (c : goal.Joined-apply) →
+turned : (c : Joined-apply) →
     let a = c.args in
     let e = c.line_end-e in
     Turned a.plain most_entries a.text.now a.room c.loop-at.at e.result c.loop-at.line c.loop-at.h c.loop-at.rows e.ensures.0
@@ -44,7 +45,7 @@ turned c =
     c.match-apply.branch
 
 -- an edge's ends are rows
-below : (c : goal.In-Edge) → (c.in-Edge.i < 64) × (c.in-Edge.j < 64)
+below : (c : In-Edge) → (c.in-Edge.i < 64) × (c.in-Edge.j < 64)
 below c =
     let b = c.loop-at in
     let a = c.args in
@@ -123,7 +124,7 @@ loop-at-smaller c = omega (arith, c.line_end-e.ensures.0)
 
 pub loop-at-preserved : goal.loop-at-preserved
 loop-at-preserved c =
-    let t = turned (goal.at.loop-at-preserved c).Joined-apply in
+    let t = turned c in
     let e = c.line_end-e.ensures in (
       omega arith,
       omega arith,

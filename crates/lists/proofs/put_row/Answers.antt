@@ -10,8 +10,9 @@ use Rattle.lists.specs.Write.{edges_text}
 use Rattle.lists.proofs.EdgeLaws.{edge_line, no_line, row_end}
 use native.Mathlib.Omega.{arith}
 use Rattle.lists.proofs.put_row.Goals as goal
+use Rattle.lists.proofs.put_row.Goals.{Joined-has}
 
-stepped : (c : goal.Joined-has) →
+stepped : (c : Joined-has) →
     let a = c.args in
     let b = c.loop-j in
     Left a.out.now a.at (edges_text (row_edges a.row a.i (a.i + 1) (a.n - (a.i + 1)))) c.if-has.out c.if-has.a (edges_text (row_edges a.row a.i (b.j + 1) (a.n - (b.j + 1))))
@@ -39,7 +40,7 @@ put_two-a-requires c =
     ((omega arith, omega arith), omega (arith, two_length e_word (a.i + 1) (b.j + 1), two_length e_word (b.j + 1) (a.i + 1)))
 
 pub loop-j-preserved : goal.loop-j-preserved
-loop-j-preserved c = let t = stepped (goal.at.loop-j-preserved c).Joined-has in (omega arith, omega arith, t)
+loop-j-preserved c = let t = stepped c in (omega arith, omega arith, t)
 
 pub shape_of-out : goal.shape_of-out
 shape_of-out c = c.loop-j.invariant.2.same

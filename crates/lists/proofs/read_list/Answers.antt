@@ -8,9 +8,10 @@ use Rattle.lists.proofs.Answers.{stored, stored_fits, stored_promise}
 use borrow.Author.Rules.{rules}
 use native.Mathlib.Omega.{arith}
 use Rattle.lists.proofs.read_list.Goals as goal
+use Rattle.lists.proofs.read_list.Goals.{Joined-answer}
 
 -- where the arms meet: none where refused, n where accepted
-counted : (c : goal.Joined-answer) → (◌≡◌ {A = ℕ} c.match-answer.stored (stored c.gather-found.result.answer)) × (c.match-answer.answer ≡ c.gather-found.result.answer)
+counted : (c : Joined-answer) → (◌≡◌ {A = ℕ} c.match-answer.stored (stored c.gather-found.result.answer)) × (c.match-answer.answer ≡ c.gather-found.result.answer)
 counted c = ⊎_elim (λ w. (w.4 ∙ sym (ap stored w.1.given.1), w.3 ∙ sym w.1.given.1)) (λ w. (w.3 ∙ sym (ap stored w.1.given.1), w.2)) c.match-answer.branch
 
 pub copy_rows-requires : goal.copy_rows-requires

@@ -6,8 +6,9 @@ use Rattle.lists.specs.Edges.{row_edges}
 use Rattle.lists.proofs.EdgeLaws.{Counted, count_yes, count_no, count_none, count_all, row_end}
 use native.Mathlib.Omega.{arith}
 use Rattle.lists.proofs.row_extent.Goals as goal
+use Rattle.lists.proofs.row_extent.Goals.{Joined-has}
 
-counted : (c : goal.Joined-has) →
+counted : (c : Joined-has) →
     let a = c.args in
     let b = c.loop-j in
     (c.if-has.edges ≤ b.j + 1) × (c.if-has.bytes ≤ 18 * (b.j + 1))
@@ -34,7 +35,7 @@ pub loop-j-init : goal.loop-j-init
 loop-j-init c = (omega arith, omega arith, omega arith, omega arith, count_all _)
 
 pub loop-j-preserved : goal.loop-j-preserved
-loop-j-preserved c = let t = counted (goal.at.loop-j-preserved c).Joined-has in (omega arith, omega arith, t.0, t.1, t.2)
+loop-j-preserved c = let t = counted c in (omega arith, omega arith, t.0, t.1, t.2)
 
 pub returns : goal.returns
 returns c =

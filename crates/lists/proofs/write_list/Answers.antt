@@ -9,13 +9,14 @@ use lib.ListN.{length}
 use mathlib.Core.Path.{◌≡◌, refl, ap, subst}
 use native.Mathlib.Omega.{arith}
 use Rattle.lists.proofs.write_list.Goals as goal
+use Rattle.lists.proofs.write_list.Goals.{After-struct_known-1, In-Valid}
 
 -- the rows of the arm that writes are sound
-sound : (c : goal.In-Valid) → Sound c.args.rows.now
+sound : (c : In-Valid) → Sound c.args.rows.now
 sound c = subst (Judged c.args.rows.now) c.in-Valid.is c.validity.ensures
 
 -- what was measured is the text's length
-measured : (c : goal.After-struct_known-1)
+measured : (c : After-struct_known-1)
     → c.number_len.result + c.number_len-in-Valid.result + 9 + c.list_extent-x.result.bytes
     ≡ length (text_of c.args.rows.now)
 measured c =
@@ -24,7 +25,7 @@ measured c =
     omega (arith, c.number_len.ensures.0, c.number_len-in-Valid.ensures.0, c.list_extent-x.ensures.0.1, text_length s)
 
 pub list_extent-x-requires : goal.list_extent-x-requires
-list_extent-x-requires c = (sound (goal.at.list_extent-x-requires c).In-Valid).apart.inside.few
+list_extent-x-requires c = (sound c).apart.inside.few
 
 pub number_len-requires : goal.number_len-requires
 number_len-requires c = let s = (sound (goal.at.number_len-requires c).In-Valid).apart.inside.few in omega arith

@@ -7,8 +7,9 @@ use native.Mathlib.Omega.{arith}
 use Rattle.mending.specs.declared.Gone.{Gone}
 use Rattle.mending.proofs.Turns.{along_start, out_whole, out_short, out_halts, out_stops, Turned, turned_groups, turned_size, turned_member, turned_along}
 use Rattle.mending.proofs.go_through.Goals as goal
+use Rattle.mending.proofs.go_through.Goals.{Joined-line_step}
 
-turned : (c : goal.Joined-line_step) →
+turned : (c : Joined-line_step) →
     let a = c.args in
     let e = c.line_end-e in
     Turned 64 a.n a.rows.now a.sheet.now c.loop-at.at e.result c.loop-at.line c.loop-at.c c.loop-at.g e.ensures.0
@@ -70,7 +71,7 @@ loop-at-preserved c =
     let a = c.args in
     let b = c.loop-at in
     let e = c.line_end-e in
-    let t = turned (goal.at.loop-at-preserved c).Joined-line_step in (
+    let t = turned c in (
       omega arith,
       omega (arith, e.ensures.0, b.invariant.1),
       omega (arith, e.ensures.0, t.bytes, b.invariant.2),

@@ -16,8 +16,9 @@ use Rattle.mending.specs.Held.{dropped_at, dropped_of}
 use Rattle.mending.proofs.Turns.{ends_drops, halts_drops, turn_drops}
 use Rattle.mending.proofs.Reports.{drops_groups, drops_size, drops_room, drops_member}
 use Rattle.mending.proofs.put_dropped.Goals as goal
+use Rattle.mending.proofs.put_dropped.Goals.{Joined-line_step}
 
-turned : (c : goal.Joined-line_step) →
+turned : (c : Joined-line_step) →
     let a = c.args in
     let e = c.line_end-e.result in
     Left a.out.now 0 (dropped_text (dropped_of a.n a.sheet.now)) c.match-line_step.out c.match-line_step.a
@@ -89,7 +90,7 @@ pub loop-at-preserved : goal.loop-at-preserved
 loop-at-preserved c =
     let b = c.loop-at in
     let e = c.line_end-e in
-    (omega arith, omega (arith, e.ensures.0, b.invariant.1), turned (goal.at.loop-at-preserved c).Joined-line_step)
+    (omega arith, omega (arith, e.ensures.0, b.invariant.1), turned c)
 
 pub shape_of-out : goal.shape_of-out
 shape_of-out c = c.loop-at.invariant.2.same

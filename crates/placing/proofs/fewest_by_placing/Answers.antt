@@ -6,15 +6,16 @@ use Rattle.clashes.specs.Room.{OpenUpTo}
 use Rattle.clashes.specs.declared.Verdict.{Verdict}
 use Rattle.placing.proofs.Meets.{start_ready, promised_told}
 use Rattle.placing.proofs.fewest_by_placing.Goals as goal
+use Rattle.placing.proofs.fewest_by_placing.Goals.{After-validity-v, Else-colours-n}
 
 -- the verdict is what validity promised
-judged : (c : goal.After-validity-v) {a : Verdict} → c.validity-v.result ≡ a → Judged c.args.rows.now a
+judged : (c : After-validity-v) {a : Verdict} → c.validity-v.result ≡ a → Judged c.args.rows.now a
 judged c e = subst (Judged c.args.rows.now) e c.validity-v.ensures
 
 -- ---- the search starts
 
 -- there is no cause for refusals 1 to 5
-opened : (c : goal.Else-colours-n) → let a = c.args in OpenUpTo 64 a.rows.now (length a.colours.now)
+opened : (c : Else-colours-n) → let a = c.args in OpenUpTo 64 a.rows.now (length a.colours.now)
 opened c = record { sound = judged c c.in-Valid.is; bytes = c.if-colours-n.false }
 
 -- ---- or is refused: 5, then 1 to 4

@@ -8,6 +8,7 @@ use native.Mathlib.Numerals.{add-one}
 use native.Mathlib.Omega.{arith}
 use lib.ListN.{length, take, drop, set, get_or, length-map, length-append, length-take, length-drop}
 use Rattle.placing.proofs.told.Goals as goal
+use Rattle.placing.proofs.told.Goals.{After-best-1, At-loop-i}
 
 -- one more element is copied
 copy_step : (b o : List ℕ) (i : ℕ) → i < length b → i < length o → set (take i b ++ drop i o) i (get_or b i 0) ≡ take (suc i) b ++ drop (suc i) o
@@ -20,11 +21,11 @@ copy_step (x ∷ b) (y ∷ o) (suc i) p q = ap (λ (l : List ℕ). x ∷ l) (cop
 copy_length : (b o : List ℕ) (i : ℕ) → i ≤ length b → i ≤ length o → length (take i b ++ drop i o) ≡ length o
 copy_length b o i p q = simp (length-append, length-take, length-drop) (omega arith)
 
-best_long : (c : goal.After-best-1) → length c.args.s.best ≡ 64
+best_long : (c : After-best-1) → length c.args.s.best ≡ 64
 best_long c = sym (length-map c.args.s.best (λ x. x)) ∙ c.well_formed.1.0.1.1.0.1.0.1
 
 -- the bytes are as many as were lent
-long_at : (c : goal.At-loop-i) → length c.loop-i.colours ≡ length c.args.colours.now
+long_at : (c : At-loop-i) → length c.loop-i.colours ≡ length c.args.colours.now
 long_at c =
     ap length c.loop-i.invariant.1
     ∙ copy_length c.args.s.best c.args.colours.now c.loop-i.i

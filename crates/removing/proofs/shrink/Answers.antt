@@ -8,9 +8,10 @@ use lib.ListN.{length, set}
 use Rattle.clashes.proofs.MatrixLaws.{sound_valid}
 use Rattle.removing.proofs.ShrinkLaws.{Going, going_start, going_next, going_less, going_end, who_below, other_below, room, without_entries}
 use Rattle.removing.proofs.shrink.Goals as goal
+use Rattle.removing.proofs.shrink.Goals.{In-loop-goes}
 
 -- who goes is an entry, and so is the other that is noted; there is a place for both
-entries : (c : goal.In-loop-goes)
+entries : (c : In-loop-goes)
     → let l = c.loop-goes in
     let n = length c.args.rows.now in
     (l.goes.who < n) × (l.goes.other < n) × (l.gone < n) × (n ≤ 64)
@@ -43,16 +44,16 @@ loop-goes-init c =
     c.below-present.ensures c.next-goes.ensures
 
 pub overflow_cast-who : goal.overflow_cast-who
-overflow_cast-who c = let e = entries (goal.at.overflow_cast-who c).In-loop-goes in omega arith
+overflow_cast-who c = let e = entries c in omega arith
 
 pub bounds-who-gone : goal.bounds-who-gone
-bounds-who-gone c = let e = entries (goal.at.bounds-who-gone c).In-loop-goes in omega arith
+bounds-who-gone c = let e = entries c in omega arith
 
 pub overflow_cast-other : goal.overflow_cast-other
-overflow_cast-other c = let e = entries (goal.at.overflow_cast-other c).In-loop-goes in omega arith
+overflow_cast-other c = let e = entries c in omega arith
 
 pub bounds-other-gone : goal.bounds-other-gone
-bounds-other-gone c = let e = entries (goal.at.bounds-other-gone c).In-loop-goes in omega arith
+bounds-other-gone c = let e = entries c in omega arith
 
 pub overflow_add-gone : goal.overflow_add-gone
 overflow_add-gone c = let e = entries (goal.at.overflow_add-gone c).In-loop-goes in omega arith

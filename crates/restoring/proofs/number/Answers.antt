@@ -11,9 +11,10 @@ use Rattle.clashes.specs.Divisions.{at, division}
 use Rattle.removing.proofs.ShareLaws.{nobody}
 use Rattle.restoring.proofs.SeatLaws.{Numbering, numbering_start, numbering_opens, numbering_joins, numbering_long, smallest, own_group}
 use Rattle.restoring.proofs.number.Goals as goal
+use Rattle.restoring.proofs.number.Goals.{In-loop-i}
 
 -- what is known of the next entry
-known : (c : goal.In-loop-i)
+known : (c : In-loop-i)
     → let i = c.loop-i.i in
     (i < 64) × (get_or c.args.seats.group i 0 < 64) × (i < length c.args.colours.now)
     × (length c.loop-i.colours ≡ length c.args.colours.now)
@@ -30,22 +31,22 @@ pub loop-i-init : goal.loop-i-init
 loop-i-init c = (search rules, numbering_start _ _)
 
 pub bounds-group-i : goal.bounds-group-i
-bounds-group-i c = (known (goal.at.bounds-group-i c).In-loop-i-unread).0
+bounds-group-i c = (known c).0
 
 pub overflow_cast-j : goal.overflow_cast-j
-overflow_cast-j c = omega (arith, (known (goal.at.overflow_cast-j c).In-loop-i-unread-2).1)
+overflow_cast-j c = omega (arith, (known c).1)
 
 pub offset_bounds-sets-j : goal.offset_bounds-sets-j
-offset_bounds-sets-j c = omega (arith, (known (goal.at.offset_bounds-sets-j c).In-loop-i-unread-2).1)
+offset_bounds-sets-j c = omega (arith, (known c).1)
 
 pub bounds-sets-j : goal.bounds-sets-j
-bounds-sets-j c = (known (goal.at.bounds-sets-j c).In-loop-i-unread-2).1
+bounds-sets-j c = (known c).1
 
 -- the entry is in its own group
 pub lowest-w-requires : goal.lowest-w-requires
 lowest-w-requires c e =
     nobody _ c.loop-i.i e (own_group 64 c.args.n c.args.seats.group c.args.seats.sets c.requires.sets c.loop-i.i
-    c.loop-i-test.true (known (goal.at.lowest-w-requires c).In-loop-i).1)
+    c.loop-i-test.true (known c).1)
 
 pub bounds-colours-i : goal.bounds-colours-i
 bounds-colours-i c = let k = known (goal.at.bounds-colours-i c).In-loop-i in omega arith

@@ -9,9 +9,10 @@ use Rattle.graphs.proofs.LoopLaws.{size_le, left_falls}
 use Rattle.restoring.specs.Rows.{names}
 use Rattle.restoring.proofs.TurnLaws.{packing_start, packing_next, packing_end, place_below}
 use Rattle.restoring.proofs.packed.Goals as goal
+use Rattle.restoring.proofs.packed.Goals.{After-rest-left, After-way_told-1}
 
 -- what stands in the array is the place of the lowest
-placed : (c : goal.After-rest-left)
+placed : (c : After-rest-left)
     → let w = c.lowest-w.result in
     (get_or c.args.places.now w 0 ≡ place ℕ_discrete w (names 64 c.args.present)) × (get_or c.args.places.now w 0 < 64)
 placed c =

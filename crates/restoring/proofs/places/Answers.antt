@@ -5,9 +5,10 @@ use Prim.Native.Nat.{◌<◌}
 use Rattle.graphs.proofs.LoopLaws.{size_le, left_falls}
 use Rattle.restoring.proofs.TurnLaws.{placing_start, placing_next, placing_end, turn_few}
 use Rattle.restoring.proofs.places.Goals as goal
+use Rattle.restoring.proofs.places.Goals.{After-rest-left}
 
 -- fewer than the members are gone through
-few : (c : goal.After-rest-left) → c.loop-left.i < 64
+few : (c : After-rest-left) → c.loop-left.i < 64
 few c =
     let l = c.loop-left in
     let low = c.lowest-w in
@@ -18,10 +19,10 @@ pub loop-left-init : goal.loop-left-init
 loop-left-init c = placing_start 64 c.args.present _ refl
 
 pub overflow_cast-out : goal.overflow_cast-out
-overflow_cast-out c = omega (arith, few (goal.at.overflow_cast-out c).After-rest-left)
+overflow_cast-out c = omega (arith, few c)
 
 pub overflow_add-i : goal.overflow_add-i
-overflow_add-i c = omega (arith, few (goal.at.overflow_add-i c).After-rest-left)
+overflow_add-i c = omega (arith, few c)
 
 pub loop-left-smaller : goal.loop-left-smaller
 loop-left-smaller c =

@@ -5,9 +5,10 @@ use native.Mathlib.Omega.{arith}
 use lib.ListN.{length, get_or}
 use Rattle.restoring.proofs.ReturnLaws.{Returns, returns_start, returns_next, returns_end, who_is, other_below, seat_is}
 use Rattle.restoring.proofs.put_back.Goals as goal
+use Rattle.restoring.proofs.put_back.Goals.{After-seat-j, In-loop-back}
 
 -- one more than the one that is put back next are not back
-waiting : (c : goal.In-loop-back)
+waiting : (c : In-loop-back)
     → let a = c.args in
     let l = c.loop-back in
     Returns 64 a.rows.now a.s.who a.s.other a.s.gone a.seats (suc (a.s.gone - (l.back + 1))) l.group l.sets l.many
@@ -18,7 +19,7 @@ waiting c =
     (omega (arith, c.loop-back-test.true)) l.invariant.1
 
 -- it is an entry, as the other that was noted is
-entries : (c : goal.In-loop-back)
+entries : (c : In-loop-back)
     → let l = c.loop-back in
     let i = c.args.s.gone - (l.back + 1) in
     (get_or c.args.s.who i 0 < length c.args.rows.now) × (get_or c.args.s.other i 0 < length c.args.rows.now)
@@ -35,7 +36,7 @@ entries c =
     )
 
 -- the group that is found is one of those there are, or the next
-found : (c : goal.After-seat-j) → (c.seat-j.result ≤ c.loop-back.many) × (c.seat-j.result < 64)
+found : (c : After-seat-j) → (c.seat-j.result ≤ c.loop-back.many) × (c.seat-j.result < 64)
 found c =
     let a = c.args in
     let l = c.loop-back in
@@ -58,31 +59,31 @@ pub overflow_sub-at : goal.overflow_sub-at
 overflow_sub-at c = omega (arith, c.loop-back-test.true)
 
 pub bounds-who-at : goal.bounds-who-at
-bounds-who-at c = let e = entries (goal.at.bounds-who-at c).In-loop-back-unread in omega arith
+bounds-who-at c = let e = entries c in omega arith
 
 pub overflow_cast-v : goal.overflow_cast-v
-overflow_cast-v c = let e = entries (goal.at.overflow_cast-v c).In-loop-back-unread-2 in omega arith
+overflow_cast-v c = let e = entries c in omega arith
 
 pub bounds-other-at : goal.bounds-other-at
-bounds-other-at c = let e = entries (goal.at.bounds-other-at c).In-loop-back-unread-2 in omega arith
+bounds-other-at c = let e = entries c in omega arith
 
 pub overflow_cast-u : goal.overflow_cast-u
-overflow_cast-u c = let e = entries (goal.at.overflow_cast-u c).In-loop-back in omega arith
+overflow_cast-u c = let e = entries c in omega arith
 
 pub seat-j-requires : goal.seat-j-requires
 seat-j-requires c = let e = entries (goal.at.seat-j-requires c).In-loop-back in (e.0, omega arith, omega arith)
 
 pub overflow_cast-group : goal.overflow_cast-group
-overflow_cast-group c = let f = found (goal.at.overflow_cast-group c).After-seat-j in omega arith
+overflow_cast-group c = let f = found c in omega arith
 
 pub bounds-group-v : goal.bounds-group-v
 bounds-group-v c = let e = entries (goal.at.bounds-group-v c).In-loop-back in omega arith
 
 pub offset_bounds-sets-j : goal.offset_bounds-sets-j
-offset_bounds-sets-j c = let f = found (goal.at.offset_bounds-sets-j c).After-seat-j in omega arith
+offset_bounds-sets-j c = let f = found c in omega arith
 
 pub bounds-sets-j : goal.bounds-sets-j
-bounds-sets-j c = (found (goal.at.bounds-sets-j c).After-seat-j).1
+bounds-sets-j c = (found c).1
 
 pub with-members-requires : goal.with-members-requires
 with-members-requires c = let e = entries (goal.at.with-members-requires c).In-loop-back in omega arith

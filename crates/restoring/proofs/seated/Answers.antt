@@ -7,9 +7,10 @@ use Rattle.graphs.proofs.LoopLaws.{size_le, left_falls}
 use Rattle.restoring.proofs.TurnLaws.{turn_few}
 use Rattle.restoring.proofs.SeatLaws.{sitting_start, sitting_next, sitting_end}
 use Rattle.restoring.proofs.seated.Goals as goal
+use Rattle.restoring.proofs.seated.Goals.{After-rest-left}
 
 -- fewer than the members are gone through, so the next has a group
-few : (c : goal.After-rest-left)
+few : (c : After-rest-left)
     → let i = c.loop-left.i in
     (i < 64) × (get_or c.args.c i 0 < 64)
 few c =
@@ -22,16 +23,16 @@ pub loop-left-init : goal.loop-left-init
 loop-left-init c = sitting_start 64 c.args.present c.args.c _ refl refl
 
 pub bounds-c-i : goal.bounds-c-i
-bounds-c-i c = (few (goal.at.bounds-c-i c).After-rest-left).0
+bounds-c-i c = (few c).0
 
 pub overflow_cast-j : goal.overflow_cast-j
-overflow_cast-j c = omega (arith, (few (goal.at.overflow_cast-j c).After-rest-left).1)
+overflow_cast-j c = omega (arith, (few c).1)
 
 pub offset_bounds-sets-j : goal.offset_bounds-sets-j
-offset_bounds-sets-j c = omega (arith, (few (goal.at.offset_bounds-sets-j c).After-rest-left).1)
+offset_bounds-sets-j c = omega (arith, (few c).1)
 
 pub bounds-sets-j : goal.bounds-sets-j
-bounds-sets-j c = (few (goal.at.bounds-sets-j c).After-rest-left).1
+bounds-sets-j c = (few c).1
 
 pub offset_bounds-sets-j-in-loop-left : goal.offset_bounds-sets-j-in-loop-left
 offset_bounds-sets-j-in-loop-left c = omega (arith, (few (goal.at.offset_bounds-sets-j-in-loop-left c).After-rest-left).1)

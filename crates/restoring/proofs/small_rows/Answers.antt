@@ -5,8 +5,9 @@ use native.Mathlib.Omega.{arith}
 use Rattle.graphs.proofs.LoopLaws.{size_le, left_falls}
 use Rattle.restoring.proofs.TurnLaws.{filling_start, filling_next, filling_end, turn_few}
 use Rattle.restoring.proofs.small_rows.Goals as goal
+use Rattle.restoring.proofs.small_rows.Goals.{After-rest-left}
 
-few : (c : goal.After-rest-left) → c.loop-left.i < 64
+few : (c : After-rest-left) → c.loop-left.i < 64
 few c =
     let l = c.loop-left in
     let low = c.lowest-w in

@@ -8,9 +8,10 @@ use Rattle.sheet_texts.specs.Sheet.{sheet_text}
 use Rattle.sheet_texts.proofs.Lengths.{sheet_most}
 use Rattle.sheet_texts.proofs.Writes.{composed}
 use Rattle.sheet_texts.proofs.compose.Goals as goal
+use Rattle.sheet_texts.proofs.compose.Goals.{Start}
 
 -- at most 64 groups, and a text that fits
-fits : (c : goal.Start) → let s = c.args.colours.now in (groups 0 s ≤ 64) × (length (sheet_text s) ≤ 641)
+fits : (c : Start) → let s = c.args.colours.now in (groups 0 s ≤ 64) × (length (sheet_text s) ≤ 641)
 fits c =
     let s = c.args.colours.now in
     let g : groups 0 s ≤ 64 = omega (arith, groups_fit 0 s c.requires.1, c.requires.0) in

@@ -7,8 +7,9 @@ use native.Mathlib.Omega.{arith}
 use Rattle.sheet_texts.specs.Sheet.{number_from, numbering}
 use Rattle.sheet_texts.proofs.FirstUse.{number_wrong, number_new, number_old, number_end}
 use Rattle.sheet_texts.proofs.number.Goals as goal
+use Rattle.sheet_texts.proofs.number.Goals.{Joined-g-used}
 
-stepped : (c : goal.Joined-g-used) →
+stepped : (c : Joined-g-used) →
     let s = c.args.colours.now in
     let i = c.loop-i.i in
     (c.if-g-used.used ≤ i + 1) × (number_from c.if-g-used.used (i + 1) (drop (i + 1) s) ≡ numbering s)
@@ -32,7 +33,7 @@ returns-then-used-g c =
     ∙ c.loop-i.invariant.2
 
 pub loop-i-preserved : goal.loop-i-preserved
-loop-i-preserved c = let t = stepped (goal.at.loop-i-preserved c).Joined-g-used in (omega arith, t.0, t.1)
+loop-i-preserved c = let t = stepped c in (omega arith, t.0, t.1)
 
 pub returns : goal.returns
 returns c = sym (number_end c.args.colours.now c.loop-i.used c.loop-i.i c.loop-i-test.false) ∙ c.loop-i.invariant.2

@@ -9,9 +9,10 @@ use Rattle.sheets.specs.Check.{size_word}
 use Rattle.sheet_texts.specs.Sheet.{members_of, member_lines}
 use Rattle.sheet_texts.proofs.Writes.{head_room, rest_room, both_put}
 use Rattle.sheet_texts.proofs.put_group.Goals as goal
+use Rattle.sheet_texts.proofs.put_group.Goals.{After-put_one-arg-1, After-size_of-size}
 
 -- the size's line, as it is defined
-sized : (c : goal.After-size_of-size) → let a = c.args in
+sized : (c : After-size_of-size) → let a = c.args in
     one_line size_word c.?type_size.result ≡ one_line size_word (length (members_of a.colours.now 0 a.g))
 sized c = ap (one_line size_word) c.?type_size.ensures.0
 

@@ -10,8 +10,9 @@ use Rattle.lines.proofs.Writing.{Left, left_begin, left_room, left_put, left_ski
 use Rattle.sheet_texts.specs.Sheet.{members_of, member_lines}
 use Rattle.sheet_texts.proofs.Members.{member_yes, member_no, member_end}
 use Rattle.sheet_texts.proofs.put_members.Goals as goal
+use Rattle.sheet_texts.proofs.put_members.Goals.{Joined-wide-g}
 
-stepped : (c : goal.Joined-wide-g) →
+stepped : (c : Joined-wide-g) →
     let a = c.args in
     let b = c.loop-i in
     Left a.out.now a.at (member_lines (members_of a.colours.now 0 a.g)) c.if-wide-g.out c.if-wide-g.a (member_lines (members_of (drop (b.i + 1) a.colours.now) (b.i + 1) a.g))
@@ -39,7 +40,7 @@ put_one-a-requires c =
     )
 
 pub loop-i-preserved : goal.loop-i-preserved
-loop-i-preserved c = (omega arith, stepped (goal.at.loop-i-preserved c).Joined-wide-g)
+loop-i-preserved c = (omega arith, stepped c)
 
 pub shape_of-out : goal.shape_of-out
 shape_of-out c = c.loop-i.invariant.1.same

@@ -9,9 +9,10 @@ use Rattle.sheets.specs.Check.{groups_word}
 use Rattle.sheet_texts.specs.Sheet.{groups_text}
 use Rattle.sheet_texts.proofs.Writes.{head_room, rest_room, both_put, sheet_is}
 use Rattle.sheet_texts.proofs.put_sheet.Goals as goal
+use Rattle.sheet_texts.proofs.put_sheet.Goals.{After-slice_known-1, Start}
 
 -- there is room for both pieces
-room : (c : goal.Start) → let a = c.args in 0 + length (one_line groups_word a.k ++ groups_text a.colours.now 0 a.k) ≤ length a.out.now
+room : (c : Start) → let a = c.args in 0 + length (one_line groups_word a.k ++ groups_text a.colours.now 0 a.k) ≤ length a.out.now
 room c = let e = ap length (sheet_is c.args.colours.now c.args.k c.requires.1) in omega (arith, c.requires.3)
 
 pub put_one-a-requires : goal.put_one-a-requires

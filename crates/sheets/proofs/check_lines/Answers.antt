@@ -9,8 +9,9 @@ use Rattle.lists.specs.Read.{most_entries, longest_text}
 use Rattle.sheets.proofs.Sets.{empty_is, empty_within}
 use Rattle.sheets.proofs.Fold.{start_sound, check_halts, check_ends, check_short, check_long, turn, Turned, place_below, turned_count, turned_place}
 use Rattle.sheets.proofs.check_lines.Goals as goal
+use Rattle.sheets.proofs.check_lines.Goals.{Joined-line_step}
 
-turned : (c : goal.Joined-line_step) →
+turned : (c : Joined-line_step) →
     let a = c.args in
     let e = c.line_end-e in
     Turned most_entries a.sheet.now a.n (matrix a.rows.now) c.loop-at.at e.result c.loop-at.line c.loop-at.p c.loop-at.mates c.loop-at.earlier
@@ -87,7 +88,7 @@ pub loop-at-smaller : goal.loop-at-smaller
 loop-at-smaller c = omega (arith, c.line_end-e.ensures.0)
 
 pub loop-at-preserved : goal.loop-at-preserved
-loop-at-preserved c = let t = turned (goal.at.loop-at-preserved c).Joined-line_step in (omega arith, omega arith, omega arith, t.size, t.sound, t.within, t.same ∙ c.loop-at.invariant.6)
+loop-at-preserved c = let t = turned c in (omega arith, omega arith, omega arith, t.size, t.sound, t.within, t.same ∙ c.loop-at.invariant.6)
 
 pub returns : goal.returns
 returns c =

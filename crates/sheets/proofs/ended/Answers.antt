@@ -5,9 +5,10 @@ use Rattle.sets.specs.Lists.{all}
 use Rattle.sets.specs.Set.{has}
 use Rattle.sheets.proofs.Sets.{complete_is}
 use Rattle.sheets.proofs.ended.Goals as goal
+use Rattle.sheets.proofs.ended.Goals.{After-is_subset}
 
 -- the two sets hold every entry, as the definition asks
-complete : (c : goal.After-is_subset) → let a = c.args in
+complete : (c : After-is_subset) → let a = c.args in
     all a.n (λ j. has a.earlier j || has a.mates j) ≡ c.is_subset.result
 complete c =
     let a = c.args in

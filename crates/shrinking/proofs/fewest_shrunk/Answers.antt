@@ -7,9 +7,10 @@ use Rattle.walk.specs.declared.Answer.TheVariants.{Many, Stray, Itself, OneSided
 use Rattle.walk.proofs.Meets.{promised_refused}
 use Rattle.shrink.specs.Shrunk.{shrunk_walk}
 use Rattle.shrinking.proofs.fewest_shrunk.Goals as goal
+use Rattle.shrinking.proofs.fewest_shrunk.Goals.{In-At}
 
 -- the rows are a list's, and the bound is its own
-bounded : (c : goal.In-At)
+bounded : (c : In-At)
     → let g = c.b-in-At-1.given.0 in
     Answers mycielskian no_members c.args.rows.now (At g.0 g.1.0)
 bounded c =

@@ -17,19 +17,20 @@ use Rattle.shrink.specs.Shrunk.{shrunk_walk}
 use Rattle.removing.specs.Words.{Shrank}
 use Rattle.shrinking.proofs.CallLaws.{present_entries, shrunk_refused, colours_few, returning, standing, shrunk_accepts}
 use Rattle.shrinking.proofs.walk_shrunk.Goals as goal
+use Rattle.shrinking.proofs.walk_shrunk.Goals.{After-fewest-a, After-shrink-s, After-size-m, In-Accepted}
 
 -- the bound is the list's
-shrank : (c : goal.After-shrink-s)
+shrank : (c : After-shrink-s)
     → let a = c.args in Shrank (of_list mycielskian a.rows.now) a.rows.now c.shrink-s.result
 shrank c =
     subst (λ (L : ℕ). Shrank L c.args.rows.now c.shrink-s.result) c.requires.bound_value c.shrink-s.ensures
 
 -- no more rows than there are
-few : (c : goal.After-size-m) → c.size-m.result ≤ 64
+few : (c : After-size-m) → c.size-m.result ≤ 64
 few c = omega (arith, c.size-m.ensures, size_le 64 c.shrink-s.result.present)
 
 -- what the walk over the shrunk rows has promised
-walked : (c : goal.After-fewest-a)
+walked : (c : After-fewest-a)
     → Promised (bounded_walk_lem mycielskian) (take (size 64 c.shrink-s.result.present) c.small_rows-small.result)
     (replicate 64 0) c.args.budget
     c.fewest-a.result c.fewest-a.new.1.0
@@ -41,7 +42,7 @@ walked c =
     c.size-m.ensures c.fewest-a.ensures
 
 -- the walk was accepted with these numbers
-accepted : (c : goal.In-Accepted)
+accepted : (c : In-Accepted)
     → let g = c.a-1.given.0 in
     Promised (bounded_walk_lem mycielskian) (take (size 64 c.shrink-s.result.present) c.small_rows-small.result)
     (replicate 64 0) c.args.budget
@@ -77,7 +78,7 @@ seated-requires c =
     let small = c.small_rows-small in
     colours_few 64 c.args.rows.now c.requires.fact.sound c.shrink-s.result (shrank (goal.at.seated-requires c).After-shrink-s) small.result small.ensures c.args.colours.now
     (replicate 64 0) c.fewest-a.new.1.0
-    c.args.budget c.requires.fact.bytes _ _ _ _ (accepted (goal.at.seated-requires c).In-Accepted)
+    c.args.budget c.requires.fact.bytes _ _ _ _ (accepted c)
 
 pub put_back-seats-requires : goal.put_back-seats-requires
 put_back-seats-requires c =

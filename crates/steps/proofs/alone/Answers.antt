@@ -8,11 +8,12 @@ use Rattle.sets.proofs.ListLaws.{length_table, get_d_table}
 use Rattle.clashes.specs.Divisions.{alone}
 use Rattle.steps.proofs.Copying.{onto_next, onto_long, onto_all}
 use Rattle.steps.proofs.alone.Goals as goal
+use Rattle.steps.proofs.alone.Goals.{At-loop-i}
 
 many : (n : ℕ) → length (alone n) ≡ n
 many n = length_table (λ i. i) n
 
-long : (c : goal.At-loop-i) → length c.loop-i.out ≡ length c.args.out.now
+long : (c : At-loop-i) → length c.loop-i.out ≡ length c.args.out.now
 long c =
     onto_long (alone c.args.n) c.args.out.now c.loop-i.out c.loop-i.i c.loop-i.invariant.1 (omega (arith, c.loop-i.invariant.0, many c.args.n))
     (omega (arith, c.loop-i.invariant.0, c.requires.0))

@@ -3,6 +3,7 @@ use Rattle.zykov.specs.Walk.{bounded}
 use Rattle.bounds.specs.Names.{mycielskian}
 use Rattle.steps.proofs.Starting.{lends_rows, lends_bytes, first_enters, walked_is}
 use Rattle.steps.proofs.bounded_walk.Goals as goal
+use Rattle.steps.proofs.bounded_walk.Goals.{After-lay}
 
 -- where the walk starts, from where the list is laid
 abbrev begin : goal.After-lay → goal.Start

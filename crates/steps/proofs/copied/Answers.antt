@@ -5,8 +5,9 @@ use native.Mathlib.Omega.{arith}
 use lib.ListN.{length}
 use Rattle.steps.proofs.Copying.{onto_next, onto_long, onto_all}
 use Rattle.steps.proofs.copied.Goals as goal
+use Rattle.steps.proofs.copied.Goals.{At-loop-i}
 
-long : (c : goal.At-loop-i) → length c.loop-i.held ≡ length c.args.held.now
+long : (c : At-loop-i) → length c.loop-i.held ≡ length c.args.held.now
 long c = onto_long c.args.rows.now c.args.held.now c.loop-i.held c.loop-i.i c.loop-i.invariant.1 c.loop-i.invariant.0
     (omega (arith, c.loop-i.invariant.0, c.requires))
 

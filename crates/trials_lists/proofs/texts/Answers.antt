@@ -3,8 +3,9 @@ use Rattle.std.proofs.Common.{◌-◌, length, subst, arith}
 use Rattle.trials_lists.specs.Case.{Within}
 use Rattle.trials_lists.specs.declared.Next.TheVariants.{Text}
 use Rattle.trials_lists.proofs.texts.Goals as goal
+use Rattle.trials_lists.proofs.texts.Goals.{In-Text}
 
-known : (c : goal.In-Text)
+known : (c : In-Text)
     → Within c.loop-at.at (length c.args.file.now)
     (Text c.in-Text.room c.in-Text.start c.in-Text.end)
 known c =
@@ -12,13 +13,13 @@ known c =
     c.in-Text.is c.find.ensures
 
 pub slice_bounds-both_readings-count : goal.slice_bounds-both_readings-count
-slice_bounds-both_readings-count c = let k = known (goal.at.slice_bounds-both_readings-count c).In-Text in omega arith
+slice_bounds-both_readings-count c = let k = known c in omega arith
 
 pub slice_bounds-both_readings-start : goal.slice_bounds-both_readings-start
-slice_bounds-both_readings-start c = let k = known (goal.at.slice_bounds-both_readings-start c).In-Text in omega arith
+slice_bounds-both_readings-start c = let k = known c in omega arith
 
 pub slice_bounds-both_readings-end : goal.slice_bounds-both_readings-end
-slice_bounds-both_readings-end c = let k = known (goal.at.slice_bounds-both_readings-end c).In-Text in omega arith
+slice_bounds-both_readings-end c = let k = known c in omega arith
 
 pub both_readings-requires : goal.both_readings-requires
 both_readings-requires c = (known (goal.at.both_readings-requires c).In-Text).0

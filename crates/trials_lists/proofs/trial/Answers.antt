@@ -2,8 +2,9 @@
 use Rattle.std.proofs.Common.{◌≤◌, length, sym, ◌∙◌, subst, arith}
 use Rattle.lists.proofs.Fold.{Bounded, read_fits}
 use Rattle.trials_lists.proofs.trial.Goals as goal
+use Rattle.trials_lists.proofs.trial.Goals.{In-Read, In-Read-2}
 
-fits : (c : goal.In-Read) → c.in-Read.n ≤ length c.args.lent.now
+fits : (c : In-Read) → c.in-Read.n ≤ length c.args.lent.now
 fits c =
     let a = c.args in
     subst (Bounded (length a.lent.now)) (sym c.read_list.ensures.answer ∙ c.in-Read.is)

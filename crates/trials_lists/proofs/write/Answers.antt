@@ -4,8 +4,9 @@ use Rattle.lists.specs.Promise.{WritePromise}
 use Rattle.lists.specs.declared.Written.{Written}
 use Rattle.lists.proofs.Calls.{write_fits}
 use Rattle.trials_lists.proofs.write.Goals as goal
+use Rattle.trials_lists.proofs.write.Goals.{In-Length, In-Length-2}
 
-fits : (c : goal.In-Length) → c.in-Length.len ≤ length c.args.out.now
+fits : (c : In-Length) → c.in-Length.len ≤ length c.args.out.now
 fits c =
     let a = c.args in
     write_fits a.rows.now a.out.now c.in-Length.len _

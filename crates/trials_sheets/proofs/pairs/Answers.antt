@@ -3,8 +3,9 @@ use Rattle.std.proofs.Common.{◌-◌, length, subst, arith}
 use Rattle.trials_sheets.specs.Case.{Within}
 use Rattle.trials_sheets.specs.declared.Next.TheVariants.{Both}
 use Rattle.trials_sheets.proofs.pairs.Goals as goal
+use Rattle.trials_sheets.proofs.pairs.Goals.{In-Both}
 
-known : (c : goal.In-Both) →
+known : (c : In-Both) →
     let r = c.room-1.given.0 in
     Within c.loop-at.at (length c.args.file.now) (Both r.0 r.1.0 r.1.1.0 r.1.1.1.0)
 known c =
@@ -18,13 +19,13 @@ part-both-readings-end-2 : goal.Need-slice-bounds-both-readings-end-2
 part-both-readings-end-2 c = let k = known c.before in omega arith
 
 pub slice_bounds-both_readings-count : goal.slice_bounds-both_readings-count
-slice_bounds-both_readings-count c = let k = known (goal.at.slice_bounds-both_readings-count c).In-Both in omega arith
+slice_bounds-both_readings-count c = let k = known c in omega arith
 
 pub slice_bounds-both_readings-start : goal.slice_bounds-both_readings-start
-slice_bounds-both_readings-start c = let k = known (goal.at.slice_bounds-both_readings-start c).In-Both in omega arith
+slice_bounds-both_readings-start c = let k = known c in omega arith
 
 pub slice_bounds-both_readings-end : goal.slice_bounds-both_readings-end
-slice_bounds-both_readings-end c = let k = known (goal.at.slice_bounds-both_readings-end c).In-Both in omega arith
+slice_bounds-both_readings-end c = let k = known c in omega arith
 
 pub slice_bounds-both_readings-count-in-Both : goal.slice_bounds-both_readings-count-in-Both
 slice_bounds-both_readings-count-in-Both c = let k = known (goal.at.slice_bounds-both_readings-count-in-Both c).In-Both in omega arith

@@ -9,9 +9,10 @@ use Rattle.walk.proofs.Answers.{bounded_answers}
 use Rattle.walk.proofs.Lending.{lends_one, walked_one}
 use Rattle.walk.proofs.Meets.{promised_told, promised_refused}
 use Rattle.walk.proofs.fewest.Goals as goal
+use Rattle.walk.proofs.fewest.Goals.{In-Open}
 
 -- there is no cause for refusals 1 to 5
-opened : (c : goal.In-Open) → let a = c.args in Open a.rows.now (length a.colours.now)
+opened : (c : In-Open) → let a = c.args in Open a.rows.now (length a.colours.now)
 opened c =
     let a = c.args in
     subst (Gated a.rows.now (length a.colours.now)) c.in-Open.is c.admitted-g.ensures

@@ -7,6 +7,7 @@ use lib.ListN.{length}
 use Rattle.steps.proofs.Copying.{onto, onto_next, onto_long}
 use Rattle.walk.specs.declared.Answer.TheVariants.{Accepted}
 use Rattle.walk.proofs.told.Goals as goal
+use Rattle.walk.proofs.told.Goals.{After-loop-i, After-written-m, At-loop-i}
 
 -- no more colours are written than there are entries
 written_most : (o : Bool) (n : ℕ) → cond o 0 n ≤ n
@@ -14,21 +15,21 @@ written_most true n = omega arith
 written_most false n = omega arith
 
 -- no more than the best has, nor than the buffer holds
-room : (c : goal.After-written-m)
+room : (c : After-written-m)
     → let a = c.args in (c.written-m.result ≤ length a.best.now) × (c.written-m.result ≤ length a.colours.now)
 room c =
     let few = written_most c.args.s.out (length c.args.rows.now) in
     (omega (arith, c.written-m.ensures, few, c.requires.rows_in_bounds), omega (arith, c.written-m.ensures, few, c.requires.fact.bytes))
 
 -- the bytes are as many as were lent
-long_at : (c : goal.At-loop-i) → length c.loop-i.colours ≡ length c.args.colours.now
+long_at : (c : At-loop-i) → length c.loop-i.colours ≡ length c.args.colours.now
 long_at c =
     let a = c.args in
     let r = room c in
     onto_long a.best.now a.colours.now c.loop-i.colours c.loop-i.i c.loop-i.invariant.1 (omega (arith, c.loop-i.invariant.0, r.0)) (omega (arith, c.loop-i.invariant.0, r.1))
 
 -- all of them are written
-copied : (c : goal.After-loop-i)
+copied : (c : After-loop-i)
     → let a = c.args in
     c.loop-i.colours ≡ onto a.best.now a.colours.now (cond a.s.out 0 (length a.rows.now))
 copied c =

@@ -30,5 +30,5 @@ returns c =
       c.size-2.ensures,
       c.size-3.ensures,
       c.size-4.ensures,
-      size_four {a = s.a} {b = s.b} {(goal.at.returns c).After-size-4 = s.c} {d = s.d} (search rules) (search rules) (search rules) (search rules),
+      size_four {a = s.a} {b = s.b} {c = s.c} {d = s.d} (search rules) (search rules) (search rules) (search rules),
     )
