@@ -11,11 +11,6 @@ use Rattle.clashes.specs.Divisions.{groups, alone}
 use Rattle.clashes.proofs.DivisionLaws.{alone_groups}
 use Rattle.placing.proofs.start.Goals as goal
 
-record Written (n i : ℕ) (best : List ℕ) : Type 0 where
-  most : i ≤ n
-  long : length best ≡ 64
-  are : take i best ≡ alone i
-
 pub loop-i-init : goal.loop-i-init
 loop-i-init c = record { most = omega arith; long = refl; are = refl }
 
