@@ -13,7 +13,7 @@ pub loop-i-init : goal.loop-i-init
 loop-i-init c = (search rules, record { long = refl; few = search rules; many = refl; is = refl; rest = λ j h. refl })
 
 pub overflow_cast-w : goal.overflow_cast-w
-overflow_cast-w c = record { fits = omega (arith, (c.type_inv.names.given c.loop-i.i).fits) }
+overflow_cast-w c = record { fits = omega (arith, (c.type_inv.names c.loop-i.i).fits) }
 
 pub bounds-out-i : goal.bounds-out-i
 bounds-out-i c =
