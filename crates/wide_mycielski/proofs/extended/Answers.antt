@@ -76,7 +76,7 @@ lowest-u-requires c =
     let here = l.invariant.0 v low.ensures.member in
     let h = holding (num a.live) (rows_of 4 256 a.rows.now) q.0 in
     let m = subst (λ x. IsMeet (num serving.result) x (num met.result)) line.ensures met.ensures in
-    offered h q.1 (in_numbers a.set a.old.now) p.0 a.w (p.1.1 q.0 q.1) v (num serving.result) (num met.result)
+    offered h q.1 (in_numbers a.set a.old.now) pre.among a.w (pre.each_at q.0 q.1) v (num serving.result) (num met.result)
     (λ x. serving.ensures q.0 q.1 x ∙ ap (λ (z : ℕ). near_all h.n (view h) (has z) x) line2.ensures) m here
 
 pub with-next-requires-in-loop-live : goal.with-next-requires-in-loop-live
@@ -150,8 +150,8 @@ returns c =
       each_at_2 = λ m k.
           let h = holding (num a.live) (rows_of 4 256 a.rows.now) m in
           let old = in_numbers a.set a.old.now in
-          let t = p.1.1 m k in
-          extending_end h k old p.0 a.w t (in_numbers l.next l.near)
-          (subst (λ r. Extending h k old p.0 a.w t (in_numbers l.next l.near) r) (empty.ensures.0 if1.false)
-          (l.invariant.2 m k p.0 t));
+          let t = pre.each_at m k in
+          extending_end h k old pre.among a.w t (in_numbers l.next l.near)
+          (subst (λ r. Extending h k old pre.among a.w t (in_numbers l.next l.near) r) (empty.ensures.0 if1.false)
+          (l.invariant.2 m k pre.among t));
     }
