@@ -1,14 +1,12 @@
 -- `placing::enter` meets its contract: a cycle of one function, with a loop on the groups. Assumes nothing.
 use mathlib.Core.Path.{◌≡◌, refl}
-use mathlib.Core.Logic.{⊎_elim}
 use mathlib.Core.List.{List}
-use Prim.Native.Nat.{ℕ, suc, ◌-◌, ◌<◌}
+use Prim.Native.Nat.{ℕ, ◌-◌}
 use native.Mathlib.Omega.{arith}
 use lib.ListN.{length}
-use Rattle.placing.specs.Going.{Kept, Comes, due}
-use Rattle.placing.specs.declared.State.{State}
-use Rattle.placing.proofs.Entering.{Counted, counted_out, counted_on, comes_out, comes_back, comes_full, comes_on, on_ready}
-use Rattle.placing.proofs.Turns.{came, first_turn, last_turn, entry_inside, groups_inside, set_inside, passed_over, put_ready, turn_spent, turn_done}
+use Rattle.placing.specs.Going.{Kept}
+use Rattle.placing.proofs.Entering.{counted_out, counted_on, comes_out, comes_back, comes_full, comes_on, on_ready}
+use Rattle.placing.proofs.Turns.{first_turn, last_turn, entry_inside, groups_inside, set_inside, passed_over, put_ready, turn_spent, turn_done}
 use Rattle.placing.proofs.+enter.Goals as goal
 use Rattle.placing.proofs.+enter.Goals.{then-meet-eq0+else-t, else-meet-eq0}
 

@@ -1,10 +1,10 @@
 -- `placing::start` meets its contract. Where i entries are written, they are 0 to i - 1. Assumes nothing.
 use mathlib.Core.Path.{◌≡◌, refl, sym, ap, ◌∙◌, subst}
 use mathlib.Core.List.{List, [], ◌∷◌, ◌++◌}
-use Prim.Native.Nat.{ℕ, ◌+◌, ◌-◌, ◌≤◌}
+use Prim.Native.Nat.{ℕ}
 use native.Mathlib.Numerals.{add-one}
 use native.Mathlib.Omega.{arith}
-use lib.ListN.{length, take, set, length-set}
+use lib.ListN.{take, set, length-set}
 use lib.Seq.{take-suc-set}
 use Rattle.sets.proofs.ListLaws.{table_suc}
 use Rattle.clashes.specs.Divisions.{groups, alone}
