@@ -12,8 +12,8 @@ use Rattle.bounds.specs.Names.{mycielskian}
 use Rattle.steps.specs.Going.{lending, node_in}
 use Rattle.steps.proofs.Turns.{counted_on, counted_ready, comes_out, comes_cut, comes_leaf, comes_fork}
 use Rattle.steps.proofs.Splits.{living}
-use Rattle.steps.proofs.Undoing.{form_few, stays_long, laid_finds, laid_at, left_none, left_best, left_kept, kept_all, kept_best, kept_restored}
-use Rattle.steps.proofs.Rounds.{round_pair, round_merges, round_enters, round_falls, round_unmerges, round_fits, round_back}
+use Rattle.steps.proofs.Undoing.{form_few, laid_finds, left_best, left_kept, kept_all, kept_best, kept_restored}
+use Rattle.steps.proofs.Rounds.{round_pair, round_merges, round_enters, round_falls, round_unmerges, round_back}
 use Rattle.steps.proofs.+enter_split.Goals as goal
 
 abbrev rule : ℕ → Rule

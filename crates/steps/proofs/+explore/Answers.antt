@@ -3,7 +3,7 @@
 use mathlib.Core.Path.{◌≡◌, refl, sym, ap, ◌∙◌}
 use mathlib.Core.Bool.{false}
 use mathlib.Core.Option.{some}
-use Prim.Native.Nat.{ℕ, ◌+◌, ◌*◌}
+use Prim.Native.Nat.{ℕ}
 use native.Mathlib.Omega.{arith}
 use Rattle.wide.specs.declared.Set.{Set}
 use Rattle.graphs.specs.Graph.{pair}
@@ -13,7 +13,7 @@ use Rattle.steps.specs.Going.{Lent, lending, node_in, counted, Enters}
 use Rattle.steps.specs.declared.State.{State}
 use Rattle.steps.proofs.Turns.{counted_on, counted_ready, comes_out, comes_leaf, comes_fork}
 use Rattle.steps.proofs.Splits.{living}
-use Rattle.steps.proofs.Undoing.{form_few, laid_finds, laid_at, left_none, left_best, left_kept, kept_restored}
+use Rattle.steps.proofs.Undoing.{form_few, laid_finds, left_best, left_kept, kept_restored}
 use Rattle.steps.proofs.Rounds.{round_pair, round_merges, round_enters, round_falls, round_unmerges, round_back}
 use Rattle.steps.proofs.+explore.Goals as goal
 
