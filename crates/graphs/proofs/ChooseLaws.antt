@@ -11,7 +11,7 @@ use native.Mathlib.Omega.{arith}
 use lib.Dec.{T, leb, ltb, ltb→lt, lt→ltb}
 use lib.ListN.{get_or}
 use borrow.Author.Tests.{le-leb, lt-ltb, le-ltb}
-use Rattle.sets.specs.Lists.{In, count, upto, members, select, cross, over}
+use Rattle.sets.specs.Lists.{In, upto, members, select, cross, over}
 use Rattle.sets.specs.Set.{has, size, IsWithout, IsMeet, IsLess, IsLowest}
 use Rattle.sets.proofs.TestLaws.{and_l, and_r, and_t, T?, T→true, T-ext}
 use Rattle.sets.proofs.ListLaws.{count_le}
@@ -26,7 +26,7 @@ use Rattle.graphs.specs.declared.Lead.{Lead}
 use Rattle.graphs.proofs.GraphLaws.{gap_chosen, of_live}
 use Rattle.graphs.proofs.LoopLaws.{without_kept, kept_without, over_next, over_none}
 use Rattle.graphs.proofs.HeldLaws.{held_beyond, held_members}
-use Rattle.graphs.proofs.PassingLaws.{common_of_first, common_of_second, passed_over_first}
+use Rattle.graphs.proofs.PassingLaws.{common_of_second, passed_over_first}
 use Rattle.graphs.proofs.LeadLaws.{over_narrow, pairs, after, over_greatest, row_lead, cross_lead, Leads, leads_over, reach, leads_reach, row_grows, lead_more, lead_less, lead_grows, lead_stays, lead_first}
 
 -- ---- one pair

@@ -3,32 +3,29 @@ use mathlib.Core.Path.{◌≡◌, refl, sym, ap, ap₂, ◌∙◌, subst}
 use mathlib.Core.Logic.{◌≢◌}
 use mathlib.Core.Bool.{Bool, true, false, not, ◌&&◌, ◌||◌, cond}
 use mathlib.Core.List.{List}
-use mathlib.Core.Option.{none}
-use Prim.Native.Nat.{ℕ, zero, suc, ◌≤◌, ◌<◌}
+use Prim.Native.Nat.{ℕ, zero, ◌≤◌, ◌<◌}
 use native.Mathlib.Decide.{ℕ_discrete, dec_lt}
 use native.Mathlib.Omega.{arith}
 use lib.Dec.{T, eqb, ltb, eqb→eq, ltb→lt, lt→ltb}
 use lib.ListN.{length, get_or, set, length-set, get_or-eq_default}
 use lib.Seq.{get_or-set_same, get_or-set_other, lt-length-set}
-use borrow.Author.Tests.{eq-eqb, ne_eqb, lt-ltb, le-ltb}
+use borrow.Author.Tests.{eq-eqb, ne_eqb, le-ltb}
 use Rattle.sets.specs.Lists.{count, upto, members, table}
 use Rattle.sets.specs.Set.{has, size, IsWith, IsWithout, IsJoin, IsMeet, IsLess, IsBelow}
-use Rattle.sets.proofs.TestLaws.{and_r, and_t, and_true, and_turn, or_false, T→true, T→false, T-ext, eqb_same, eqb_turn}
+use Rattle.sets.proofs.TestLaws.{and_r, and_t, and_turn, or_false, T→true, T→false, T-ext, eqb_same, eqb_turn}
 use Rattle.sets.proofs.ListLaws.{length_table, get_d_table}
 use Rattle.sets.proofs.MemberLaws.{count_agree, count_narrow, members_count, members_agree, members_narrow}
 use Rattle.clashes.specs.Divisions.{groups}
 use Rattle.clashes.specs.Matrix.{matrix, Valid, SoundUpTo}
 use Rattle.clashes.proofs.MatrixLaws.{sound_valid}
-use Rattle.graphs.specs.Graph.{Graph, live, vertices, merge, separate, pair, missing, grouping, graph}
+use Rattle.graphs.specs.Graph.{Graph, live, vertices, merge, separate, missing, grouping, graph}
 use Rattle.graphs.specs.Good.{Live, Good, Merged, Parted}
-use Rattle.graphs.specs.Held.{HeldAt, HoldsAt, view, choice_of, node}
+use Rattle.graphs.specs.Held.{HeldAt, HoldsAt, view, node}
 use Rattle.graphs.specs.Acts.{RootAt, PairAt, BecomesAt, Linked, Renamed}
 use Rattle.graphs.specs.declared.Node.{Node}
-use Rattle.graphs.specs.declared.Choice.{Choice}
-use Rattle.graphs.specs.declared.Choice.TheVariants.{Complete, Split}
-use Rattle.graphs.proofs.GraphLaws.{graph_ext, live_of, of_live, to_other, pair_chosen}
+use Rattle.graphs.proofs.GraphLaws.{graph_ext, live_of, of_live, to_other}
 use Rattle.graphs.proofs.SplitLaws.{merge_is, separate_is, good_merged, good_parted, good_graph, merged_live, live_merged, graph_live, chosen_differ}
-use Rattle.graphs.proofs.MeasureLaws.{merged_count, merged_fewer, parted_count, parted_fewer}
+use Rattle.graphs.proofs.MeasureLaws.{merged_fewer, parted_fewer}
 use Rattle.graphs.proofs.GroupingLaws.{grouping_groups}
 
 -- a node that holds a good graph, and whose live set is that graph's

@@ -35,7 +35,7 @@ use Rattle.walk.proofs.Answers.{mycielskian_bound}
 use Rattle.shrink.specs.Rules.{Removal, left, everyone, gone, among}
 use Rattle.shrink.specs.Rules as rules
 use Rattle.shrink.specs.Back.{back, spread}
-use Rattle.shrink.specs.Shrunk.{fewest, shrunk_size, shrunk_clash, whole, shrunk_of, shrunk_walk}
+use Rattle.shrink.specs.Shrunk.{shrunk_size, shrunk_clash, whole, shrunk_of, shrunk_walk}
 use Rattle.shrink.specs.Steps.{Steps, Fits}
 use Rattle.shrink.proofs.RuleLaws.{left_in, removals_steps}
 use Rattle.shrink.proofs.BackLaws.{back_fits, spread_at, spread_fits}

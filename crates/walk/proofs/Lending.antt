@@ -1,5 +1,5 @@
 -- What the calls at one word lend to a walk: 64 rows, names and bytes of zeros, and a trail with a place for each pair of 64 entries. Assumes nothing.
-use mathlib.Core.Path.{◌≡◌, refl, sym, subst}
+use mathlib.Core.Path.{refl, sym, subst}
 use mathlib.Core.Logic.{inl}
 use mathlib.Core.List.{List}
 use Prim.Native.Nat.{ℕ, zero, suc, ◌+◌, ◌*◌, ◌≤◌}

@@ -21,7 +21,7 @@ use Rattle.graphs.specs.Graph.{Graph, live, merge, separate, pair, graph, groupi
 use Rattle.graphs.specs.Good.{Good, Chosen}
 use Rattle.graphs.proofs.SplitLaws.{good_graph}
 use Rattle.graphs.proofs.GroupingLaws.{grouping_division}
-use Rattle.zykov.specs.Tree.{Tree, leaf, fork, leaves, nodes, below, zykov}
+use Rattle.zykov.specs.Tree.{Tree, leaf, fork, nodes, below, zykov}
 use Rattle.zykov.specs.Walk.{State, Rule, start, enter, size, unless, walk, bounded, plain}
 use Rattle.zykov.specs.Bound.{IsBound}
 use Rattle.zykov.proofs.Allowed.{Allows, grouping_allowed, grouping_only, allows_merged, merged_allows, allows_separated, separated_allows}

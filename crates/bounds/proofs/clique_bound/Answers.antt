@@ -7,7 +7,7 @@ use Rattle.clashes.proofs.MatrixLaws.{sound_valid}
 use Rattle.graphs.proofs.SplitLaws.{good_graph}
 use Rattle.bounds.specs.Names.{clique_set, clique_bound_lem}
 use Rattle.bounds.specs.Lent.{Answers}
-use Rattle.bounds.proofs.LentLaws.{by_tag, accepted, refused}
+use Rattle.bounds.proofs.LentLaws.{accepted, refused}
 use Rattle.bounds.proofs.BoundLaws.{clique_size}
 use Rattle.bounds.proofs.clique_bound.Goals as goal
 use Rattle.bounds.proofs.clique_bound.Goals.{In-Valid}

@@ -3,7 +3,7 @@ use mathlib.Core.Path.{refl, sym, ◌∙◌, subst}
 use Rattle.clashes.specs.Matrix.{Judged}
 use Rattle.bounds.specs.Names.{mycielskian}
 use Rattle.bounds.specs.Lent.{no_members, Answers}
-use Rattle.bounds.proofs.LentLaws.{by_tag, root_list, accepted, refused}
+use Rattle.bounds.proofs.LentLaws.{root_list, accepted, refused}
 use Rattle.bounds.proofs.mycielskian_bound.Goals as goal
 
 pub root-requires : goal.root-requires

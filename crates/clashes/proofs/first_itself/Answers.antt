@@ -1,6 +1,5 @@
 -- `clashes::first_itself` meets its contract: no row before i has its own bit. Assumes nothing.
 use mathlib.Core.Path.{sym, ◌∙◌, subst}
-use Prim.Native.Nat.{◌-◌}
 use native.Mathlib.Omega.{arith}
 use lib.Dec.{T}
 use borrow.Author.Count.{below_more}

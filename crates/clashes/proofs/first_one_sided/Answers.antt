@@ -1,5 +1,4 @@
 -- `clashes::first_one_sided` meets its contract: no row before this one has a bit that is not returned. Assumes nothing.
-use Prim.Native.Nat.{◌-◌}
 use native.Mathlib.Omega.{arith}
 use borrow.Author.Count.{below_more}
 use Rattle.clashes.proofs.first_one_sided.Goals as goal

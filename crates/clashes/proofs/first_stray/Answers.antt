@@ -1,5 +1,4 @@
 -- `clashes::first_stray` meets its contract: no row before i has a bit at n or above. Assumes nothing.
-use Prim.Native.Nat.{◌-◌}
 use native.Mathlib.Omega.{arith}
 use borrow.Author.Count.{below_more}
 use Rattle.clashes.proofs.MatrixLaws.{stray_some, stray_none}

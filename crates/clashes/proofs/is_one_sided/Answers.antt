@@ -4,7 +4,6 @@ use mathlib.Core.Path.{sym, ◌∙◌, subst}
 use native.Mathlib.Omega.{arith}
 use lib.Dec.{T}
 use borrow.Author.Tests.{not-true, not-false}
-use Rattle.sets.specs.Set.{has}
 use Rattle.sets.proofs.SetLaws.{size_without}
 use Rattle.clashes.proofs.OneSidedLaws.{Looked, looked_start, looked_again, looked_end}
 use Rattle.clashes.proofs.is_one_sided.Goals as goal

@@ -4,7 +4,6 @@ use mathlib.Core.Path.{sym, subst}
 use mathlib.Core.Logic.{inl, inr}
 use native.Mathlib.Nat.{le_trans, le_of_eq}
 use native.Mathlib.Omega.{arith}
-use Rattle.sets.specs.Set.{size}
 use Rattle.graphs.specs.Held.{view, holding}
 use Rattle.cliques.specs.Growth.{opening}
 use Rattle.cliques.proofs.WordLaws.{size_none}

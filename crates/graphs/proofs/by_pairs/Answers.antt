@@ -3,7 +3,7 @@ use mathlib.Core.Path.{sym, ap, ◌∙◌}
 use Prim.Native.Nat.{◌+◌}
 use native.Mathlib.Omega.{arith}
 use Rattle.sets.specs.Lists.{members, over}
-use Rattle.sets.specs.Set.{has, size}
+use Rattle.sets.specs.Set.{has}
 use Rattle.graphs.specs.Acts.{lead, shared}
 use Rattle.graphs.specs.declared.Lead.{Lead}
 use Rattle.graphs.proofs.LoopLaws.{size_le, left_falls, over_next, over_none}

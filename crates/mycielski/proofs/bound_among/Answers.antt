@@ -29,9 +29,12 @@ returns-then-size-b c =
 pub first_witnesses-ws-requires : goal.first_witnesses-ws-requires
 first_witnesses-ws-requires c =
     let r = c.clique_among-c in
-    let h = holding c.args.live c.args.rows.now c.requires.0 in record { rows_len = c.requires.1.rows_long; within = clique_live h c.requires.1 r.result
+    let h = holding c.args.live c.args.rows.now c.requires.0 in record {
+      rows_len = c.requires.1.rows_long;
+      within = clique_live h c.requires.1 r.result
           (reaches_short h c.requires.1 c.args.enough r.result (r.ensures c.requires.0 c.requires.1)
-          (omega (arith, c.if-enough-b.false, c.size-b.ensures))) }
+          (omega (arith, c.if-enough-b.false, c.size-b.ensures)));
+    }
 
 pub returns-then-ws-eq0 : goal.returns-then-ws-eq0
 returns-then-ws-eq0 c =

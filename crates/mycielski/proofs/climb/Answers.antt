@@ -1,7 +1,7 @@
 -- `mycielski::climb` meets its contract. The loop's invariant: H and the bound so far are those of a round, and the rounds that are left give the
 -- whole's bound. The measure: what the bound lacks of what is enough. Assumes nothing.
 use mathlib.Core.Path.{◌≡◌, subst}
-use Prim.Native.Nat.{suc, ◌+◌, ◌-◌}
+use Prim.Native.Nat.{suc, ◌+◌}
 use native.Mathlib.Nat.{le_of_eq}
 use native.Mathlib.Numerals.{add-one}
 use native.Mathlib.Omega.{arith}
@@ -22,11 +22,17 @@ lowest-requires c = c.requires.fact
 pub extended-p-requires : goal.extended-p-requires
 extended-p-requires c =
     let p = c.whole in
-    let q = c.requires.holds in record { holds = q; among = first_among (holding c.args.live c.args.rows.now q.0) q.1 c.args.c p.result p.ensures (c.requires.each q.0 q.1); w_bound = c.lowest.ensures.below; each = λ m k.
-                first_w (holding c.args.live c.args.rows.now m) k c.args.c p.result p.ensures (c.requires.each m k) c.requires.c_bound c.args.ws
-                (c.requires.each_2 m k) c.lowest.result c.lowest.ensures; each_2 = λ m k.
-                first_fit (holding c.args.live c.args.rows.now m) k c.args.c p.result p.ensures (c.requires.each m k)
-                c.first_servings-fit.result (c.first_servings-fit.ensures m k) }
+    let q = c.requires.holds in record {
+      holds = q;
+      among = first_among (holding c.args.live c.args.rows.now q.0) q.1 c.args.c p.result p.ensures (c.requires.each q.0 q.1);
+      w_bound = c.lowest.ensures.below;
+      each = λ m k.
+          first_w (holding c.args.live c.args.rows.now m) k c.args.c p.result p.ensures (c.requires.each m k) c.requires.c_bound c.args.ws
+          (c.requires.each_2 m k) c.lowest.result c.lowest.ensures;
+      each_2 = λ m k.
+          first_fit (holding c.args.live c.args.rows.now m) k c.args.c p.result p.ensures (c.requires.each m k)
+          c.first_servings-fit.result (c.first_servings-fit.ensures m k);
+    }
 
 pub loop-b-init : goal.loop-b-init
 loop-b-init c =
@@ -95,9 +101,15 @@ extended-p-requires-in-loop-b c =
     let test = c.if-all-size in
     let witnesses = c.witnesses-ws in
     let low2 = c.lowest-in-loop-b in
-    let q = c.requires.holds in record { holds = q; among = climb_among (holding c.args.live c.args.rows.now q.0) q.1 l.p l.b (l.invariant q.0 q.1); w_bound = low2.ensures.below; each = λ m k.
-                climb_w (holding c.args.live c.args.rows.now m) k l.p.set (part_of l.p).edge l.b (l.invariant m k)
-                (omega (arith, test.false, sized.ensures, sized3.ensures)) witnesses.result (witnesses.ensures m k) low2.result low2.ensures; each_2 = λ m k. c.servings-fit.ensures m k }
+    let q = c.requires.holds in record {
+      holds = q;
+      among = climb_among (holding c.args.live c.args.rows.now q.0) q.1 l.p l.b (l.invariant q.0 q.1);
+      w_bound = low2.ensures.below;
+      each = λ m k.
+          climb_w (holding c.args.live c.args.rows.now m) k l.p.set (part_of l.p).edge l.b (l.invariant m k)
+          (omega (arith, test.false, sized.ensures, sized3.ensures)) witnesses.result (witnesses.ensures m k) low2.result low2.ensures;
+      each_2 = λ m k. c.servings-fit.ensures m k;
+    }
 
 pub overflow_add-b-in-loop-b-2 : goal.overflow_add-b-in-loop-b-2
 overflow_add-b-in-loop-b-2 c =

@@ -1,17 +1,12 @@
 -- `removing::first_covered` meets its contract: nobody who was looked at is covered, or one was found. Assumes nothing.
 use mathlib.Core.Path.{refl, ap, subst}
-use mathlib.Core.Bool.{Bool}
-use mathlib.Core.List.{List}
-use mathlib.Core.Option.{Option, none, some}
-use Prim.Native.Nat.{ℕ}
+use mathlib.Core.Option.{some}
 use native.Mathlib.Omega.{arith}
 use lib.Dec.{T}
 use lib.ListN.{length}
 use Rattle.sets.specs.Set.{has}
 use Rattle.sets.proofs.TestLaws.{and_l}
-use Rattle.clashes.specs.Matrix.{matrix}
 use Rattle.graphs.proofs.LoopLaws.{left_falls}
-use Rattle.shrink.specs.Rules.{Removal, is_covered, choose}
 use Rattle.removing.proofs.ShareLaws.{size_nobody}
 use Rattle.removing.proofs.LookLaws.{looked_start, looked_next, looked_found, looked_end, covered_here, covered_none, covered_some, covered_noted}
 use Rattle.removing.proofs.first_covered.Invariants.{test, pick}

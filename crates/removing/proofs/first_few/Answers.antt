@@ -1,15 +1,10 @@
 -- `removing::first_few` meets its contract: nobody who was looked at has few clashes, or one was found. Assumes nothing.
 use mathlib.Core.Path.{refl, ap}
-use mathlib.Core.Bool.{Bool}
-use mathlib.Core.List.{List}
-use mathlib.Core.Option.{Option, none, some}
-use Prim.Native.Nat.{ℕ}
+use mathlib.Core.Option.{some}
 use native.Mathlib.Omega.{arith}
 use lib.ListN.{length}
 use Rattle.sets.specs.Set.{has}
-use Rattle.clashes.specs.Matrix.{matrix}
 use Rattle.graphs.proofs.LoopLaws.{left_falls}
-use Rattle.shrink.specs.Rules.{Removal, has_few, choose}
 use Rattle.removing.proofs.ShareLaws.{size_nobody}
 use Rattle.removing.proofs.LookLaws.{looked_start, looked_next, looked_found, looked_end, few_some, few_none, few_here, removal_few}
 use Rattle.removing.proofs.first_few.Invariants.{test, pick}

@@ -1,7 +1,7 @@
 -- `undo::colours` meets its contract: the bytes below i are the groups of the entries below i, and next is how many they are. Assumes nothing.
 use mathlib.Core.Path.{refl, sym, subst₂}
 use mathlib.Core.List.{List}
-use Prim.Native.Nat.{ℕ, ◌+◌, ◌-◌, ◌<◌}
+use Prim.Native.Nat.{ℕ, ◌+◌, ◌<◌}
 use native.Mathlib.Omega.{arith}
 use lib.ListN.{length}
 use Rattle.undo.proofs.ColourLaws.{Numbered, numbered_opens, numbered_joins, numbered_all}

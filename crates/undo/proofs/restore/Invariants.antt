@@ -1,5 +1,5 @@
 use mathlib.Core.List.{List}
-use Prim.Native.Nat.{ℕ, ◌-◌, ◌*◌, ◌≤◌}
+use Prim.Native.Nat.{ℕ, ◌*◌, ◌≤◌}
 use Rattle.wide.specs.Form.{Form, held}
 use Rattle.undo.specs.Back.{Restored}
 use Rattle.undo.proofs.restore.Given as goal

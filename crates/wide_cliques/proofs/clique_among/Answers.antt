@@ -11,7 +11,6 @@ use Rattle.cliques.specs.Growth.{opening}
 use Rattle.cliques.proofs.WordLaws.{size_none}
 use Rattle.cliques.proofs.HuntLaws.{Hunt, hunt_start, hunt_end, hunt_size, hunt_less, near_live, hunt_new, hunt_old, hunt_skip}
 use Rattle.wide_cliques.specs.Wide.{in_numbers}
-use borrow.Author.Tests.{not-true, not-false}
 use Rattle.wide_cliques.proofs.clique_among.Goals as goal
 
 pub loop-live-init : goal.loop-live-init

@@ -6,7 +6,6 @@ use Rattle.wide.specs.Words.{num, rows_of}
 use Rattle.graphs.specs.Held.{holding}
 use Rattle.cliques.proofs.WordLaws.{Turn, turn_start, turn_less, turn_again, turn_end}
 use Rattle.wide_cliques.specs.Wide.{in_numbers}
-use borrow.Author.Tests.{not-true, not-false}
 use Rattle.wide_cliques.proofs.grow.Goals as goal
 
 pub loop-rest-init : goal.loop-rest-init

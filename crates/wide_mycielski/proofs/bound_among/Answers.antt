@@ -29,9 +29,13 @@ climb-requires c =
     let a = c.args in
     let found = c.clique_among-c in
     let if1 = c.if-enough-b in
-    let sized = c.size-b in record { rows_len = pre.rows_len; holds_at = pre.holds_at; each_at = λ m k.
-            reaches_short (holding (num a.live) (rows_of 4 256 a.rows.now) m) k a.enough (num found.result) (found.ensures m k)
-            (omega (arith, if1.false, sized.ensures)) }
+    let sized = c.size-b in record {
+      rows_len = pre.rows_len;
+      holds_at = pre.holds_at;
+      each_at = λ m k.
+          reaches_short (holding (num a.live) (rows_of 4 256 a.rows.now) m) k a.enough (num found.result) (found.ensures m k)
+          (omega (arith, if1.false, sized.ensures));
+    }
 
 pub returns : goal.returns
 returns c =

@@ -1,7 +1,6 @@
 -- `wide_mycielski::climb` meets its contract. The loop's invariant: H and the bound so far are those of a round, and the rounds that are left give the
 -- whole's bound. The measure: what the bound lacks of what is enough. Assumes nothing.
 use mathlib.Core.Path.{refl, sym}
-use Prim.Native.Nat.{◌-◌}
 use native.Mathlib.Nat.{le_of_eq}
 use native.Mathlib.Numerals.{add-one}
 use native.Mathlib.Omega.{arith}
@@ -119,9 +118,17 @@ extended-set-requires c =
     let sized = c.size-all in
     let sized3 = c.size in
     let witnesses = c.witnesses-ws in
-    let q = pre.holds_at in record { rows_len = pre.rows_len; len = l.invariant.0; near_value = refl; holds_at = q; among = climb_among (holding (num a.live) (rows_of 4 256 a.rows.now) q.0) q.1 (in_numbers l.set l.near) l.b (l.invariant.1 q.0 q.1); w_bound = low.ensures.below; each_at = λ m k.
-                    climb_w (holding (num a.live) (rows_of 4 256 a.rows.now) m) k (num l.set) (part_of (in_numbers l.set l.near)).edge l.b (l.invariant.1 m k)
-                    (omega (arith, if1.false, sized.ensures, sized3.ensures)) (num witnesses.result) (witnesses.ensures m k) low.result low.ensures }
+    let q = pre.holds_at in record {
+      rows_len = pre.rows_len;
+      len = l.invariant.0;
+      near_value = refl;
+      holds_at = q;
+      among = climb_among (holding (num a.live) (rows_of 4 256 a.rows.now) q.0) q.1 (in_numbers l.set l.near) l.b (l.invariant.1 q.0 q.1);
+      w_bound = low.ensures.below;
+      each_at = λ m k.
+          climb_w (holding (num a.live) (rows_of 4 256 a.rows.now) m) k (num l.set) (part_of (in_numbers l.set l.near)).edge l.b (l.invariant.1 m k)
+          (omega (arith, if1.false, sized.ensures, sized3.ensures)) (num witnesses.result) (witnesses.ensures m k) low.result low.ensures;
+    }
 
 pub overflow_add-b-in-loop-b : goal.overflow_add-b-in-loop-b
 overflow_add-b-in-loop-b c =

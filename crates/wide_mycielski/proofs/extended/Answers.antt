@@ -5,7 +5,6 @@ use mathlib.Core.List.{List}
 use Prim.Native.Nat.{ℕ}
 use lib.Dec.{T}
 use lib.ListN.{length}
-use borrow.Author.Tests.{not-true, not-false}
 use Rattle.sets.specs.Set.{has, IsMeet, IsWith}
 use Rattle.wide.specs.Words.{num, rows_of}
 use Rattle.wide.proofs.RowLaws.{rows_long}

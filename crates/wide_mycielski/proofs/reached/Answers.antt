@@ -1,7 +1,6 @@
 -- `wide_mycielski::reached` meets its contract. The loop's invariant: r has the vertices that are adjacent to some that is done. The measure: what is
 -- left. Assumes nothing.
 use mathlib.Core.Path.{sym, subst}
-use borrow.Author.Tests.{not-true, not-false}
 use Rattle.sets.specs.Set.{IsJoin}
 use Rattle.wide.specs.Words.{num, rows_of}
 use Rattle.graphs.proofs.LoopLaws.{left_falls}

@@ -1,7 +1,6 @@
 -- `wide_mycielski::serving` meets its contract. The loop's invariant: s has the vertices that are adjacent to all that is done. The measure: what is
 -- left. Assumes nothing.
 use mathlib.Core.Path.{subst}
-use borrow.Author.Tests.{not-true, not-false}
 use Rattle.sets.specs.Set.{IsMeet}
 use Rattle.wide.specs.Words.{num, rows_of}
 use Rattle.graphs.proofs.LoopLaws.{left_falls}

@@ -1,6 +1,5 @@
 -- `wide_mycielski::tie` meets its contract. The loop's invariant: the edges to what is done are laid. The measure: what is left. Assumes nothing.
 use mathlib.Core.Path.{sym, ◌∙◌}
-use borrow.Author.Tests.{not-true, not-false}
 use Rattle.wide.specs.Words.{num, rows_of}
 use Rattle.wide.proofs.RowLaws.{rows_long}
 use Rattle.graphs.proofs.LoopLaws.{left_falls}
@@ -87,5 +86,8 @@ returns c =
     let written = c.put in
     let empty = c.is_empty in
     let if1 = c.loop-left-test in
-    let near = a.near.now in record { near_len_2 = l.invariant.0; ties = tying_end_by (rows_of 4 256 near) (num line.result) (num joined.result) (rows_long 4 256 near) pre.u_bound line.ensures joined.ensures
-          l.invariant.1 written.ensures.1 (empty.ensures.0 if1.false) }
+    let near = a.near.now in record {
+      near_len_2 = l.invariant.0;
+      ties = tying_end_by (rows_of 4 256 near) (num line.result) (num joined.result) (rows_long 4 256 near) pre.u_bound line.ensures joined.ensures
+          l.invariant.1 written.ensures.1 (empty.ensures.0 if1.false);
+    }

@@ -2,7 +2,6 @@
 use mathlib.Core.Path.{refl, sym, ap, ◌∙◌, subst}
 use Prim.Native.Nat.{zero}
 use lib.ListN.{length, length-replicate}
-use borrow.Author.Tests.{not-true, not-false}
 use Rattle.wide.specs.Words.{num, rows_of}
 use Rattle.wide.proofs.RowLaws.{rows_zero}
 use Rattle.graphs.proofs.LoopLaws.{left_falls}

@@ -6,7 +6,6 @@ use Prim.Native.Nat.{ℕ, ◌-◌, ◌^◌}
 use lib.Bits.{bit_and}
 use lib.Dec.{T}
 use lib.ListN.{get_or}
-use borrow.Author.Tests.{not-true, not-false}
 use Rattle.sets.specs.Set.{has}
 use Rattle.sets.proofs.SetLaws.{without_is}
 use Rattle.wide.specs.Words.{num, rows_of}

@@ -1,4 +1,3 @@
-use Prim.Native.Nat.{◌-◌}
 use lib.ListN.{get_or}
 use Rattle.sets.specs.Set.{has, size}
 use Rattle.wide.specs.Words.{num, rows_of}

@@ -1,7 +1,6 @@
 -- `wide_pairs::by_pairs` meets its contract: what leads, and the vertices that are left, give what all give. Assumes nothing.
 use mathlib.Core.Path.{refl, sym, ◌∙◌, subst}
 use native.Mathlib.Omega.{arith}
-use borrow.Author.Tests.{not-true, not-false}
 use Rattle.sets.specs.Set.{IsMeet}
 use Rattle.wide.specs.Words.{num, rows_of}
 use Rattle.graphs.specs.Acts.{lead, shared_at}

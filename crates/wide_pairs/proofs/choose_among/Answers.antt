@@ -3,8 +3,7 @@ use mathlib.Core.Path.{subst}
 use Prim.Native.Nat.{◌-◌}
 use native.Mathlib.Omega.{arith}
 use lib.Bits.{bit_and}
-use borrow.Author.Tests.{not-true, not-false}
-use Rattle.sets.specs.Set.{size, IsMeet}
+use Rattle.sets.specs.Set.{IsMeet}
 use Rattle.sets.proofs.SetLaws.{less_is}
 use Rattle.wide.specs.Words.{num, rows_of}
 use Rattle.graphs.specs.Held.{holding}

@@ -1,4 +1,3 @@
-use Prim.Native.Nat.{◌-◌}
 use Rattle.sets.specs.Set.{size}
 use Rattle.wide.specs.Words.{num, rows_of}
 use Rattle.graphs.proofs.ChooseLaws.{Scanned}
