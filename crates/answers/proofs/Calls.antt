@@ -20,7 +20,6 @@ use Rattle.lists.specs.declared.Fault.{Fault}
 use Rattle.lists.specs.declared.Fault.TheVariants.{Repeat}
 use Rattle.lists.specs.declared.Found.{Found}
 use Rattle.lists.proofs.Alike.{read_up_to_alike}
-use Rattle.lists.specs.declared.Reading.{Reading}
 use Rattle.lists.specs.declared.Reading.TheVariants.{Read, Refused}
 use Rattle.sheet_texts.specs.Sheet.{sheet_text}
 use Rattle.sheet_texts.proofs.OwnList.{read_up_to_again, rows_are, rows_count}

@@ -1,16 +1,16 @@
 -- What is printed for a text, by the steps of the code: a composed text is written where it fits, every number, line and column of a refusal has at most
 -- seven digits, and a walk over the rows of a list is accepted or refused for effort. Assumes nothing.
-use Prim.Native.Nat.{ℕ, zero, suc, ◌+◌, ◌≤◌, ◌<◌}
+use Prim.Native.Nat.{ℕ, suc, ◌+◌, ◌≤◌, ◌<◌}
 use mathlib.Core.Path.{◌≡◌, refl, sym, ap, subst, ◌∙◌}
-use mathlib.Core.Logic.{◌⊎◌, inl, inr, ◌≢◌}
+use mathlib.Core.Logic.{◌⊎◌, inl, inr}
 use mathlib.Core.List.{List, [], ◌∷◌, ◌++◌}
 use mathlib.Core.Bool.{Bool, true, false, cond}
 use native.Mathlib.Decide.{dec_lt}
 use native.Mathlib.Omega.{arith}
 use types.Run.{OneOf, miss}
 use denote.Enum.Declared.{tag_of}
-use borrow.Author.Tests.{le-leb, lt-leb, leb-true, leb-false, ne_eqb}
-use lib.Dec.{T, leb, eqb, ltb}
+use borrow.Author.Tests.{le-leb, lt-leb, leb-true, ne_eqb}
+use lib.Dec.{T, eqb, ltb}
 use lib.ListN.{length, take, length-append}
 use Rattle.refusals.specs.Table.{Beside, nothing, a_row, the_nodes, a_line, a_spot, an_index, entry, number_of, with, told, told_at}
 use Rattle.refusals.specs.declared.Refusal.{Refusal}
@@ -43,7 +43,6 @@ use Rattle.lists.proofs.ReadSound.{read_sound}
 use Rattle.lists.proofs.Fold.{Bounded, read_up_to_few}
 use Rattle.sheet_texts.specs.Sheet.{sheet_text}
 use Rattle.answers.specs.Printed.{budget, refused_word, line_word, column_word, line_text, spot_text, told_text, place_text, refused_text, rows_text, read_text, printed, Writes}
-use Rattle.answers.specs.declared.Printed.{Printed}
 use Rattle.answers.specs.declared.Printed.TheVariants.{Length, Full}
 
 -- ---- a composed text

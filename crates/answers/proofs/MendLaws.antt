@@ -12,9 +12,8 @@ use lib.ListN.{length}
 use Rattle.refusals.specs.Table.{number_of, told}
 use Rattle.refusals.specs.declared.Refusal.{Refusal}
 use Rattle.lines.specs.Text.{Text, done, unended, ended, lines_of, line_count}
-use Rattle.lines.specs.Numeral.{over}
 use Rattle.clashes.specs.Matrix.{matrix}
-use Rattle.lists.specs.Read.{most_entries, longest_text, read_of}
+use Rattle.lists.specs.Read.{longest_text, read_of}
 use Rattle.lists.specs.declared.Fault.{Fault}
 use Rattle.lists.specs.declared.Reading.{Reading}
 use Rattle.lists.specs.declared.Reading.TheVariants.{Read, Refused as Unreadable}
@@ -27,12 +26,10 @@ use Rattle.mends.specs.Promise as mends
 use Rattle.mends.specs.declared.Counts.{Counts}
 use Rattle.mends.specs.declared.Step.{Step}
 use Rattle.mends.specs.declared.Step.TheVariants.{Stop, Groups, Size, Member as Typing}
-use Rattle.mends.specs.declared.Mended.{Mended}
 use Rattle.mends.specs.declared.Mended.TheVariants.{Written, Unread, Refused, Full}
 use Rattle.mends.proofs.Sheets.{refused_is}
 use Rattle.answers.specs.Printed.{told_text, refused_text, printed, Writes}
 use Rattle.answers.specs.Mended.{mending_text, mended_text}
-use Rattle.answers.specs.declared.Printed.{Printed}
 use Rattle.answers.specs.declared.Printed.TheVariants.{Length, Full as NoRoom}
 use Rattle.answers.proofs.Laws.{lines_most, line_told, printed_refused, printed_long}
 

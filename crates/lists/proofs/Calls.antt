@@ -21,7 +21,7 @@ use Rattle.lists.specs.declared.Reading.{Reading}
 use Rattle.lists.specs.declared.Reading.TheVariants.{Read, Refused}
 use Rattle.lists.specs.declared.Fault.TheVariants.{Repeat}
 use Rattle.lists.specs.declared.Found.{Found}
-use Rattle.lists.specs.declared.Written.TheVariants.{Length, Many, Stray, Itself, OneSided, Full}
+use Rattle.lists.specs.declared.Written.TheVariants.{Length, Full}
 use Rattle.lists.proofs.ReadBack.{Sevens, sevens, text_up_to_alike, read_up_to_back}
 use Rattle.lists.proofs.Alike.{read_up_to_alike}
 use Rattle.lists.proofs.Lengths.{list_most}

@@ -8,7 +8,7 @@
 -- Assumes nothing.
 use Prim.Native.Nat.{ℕ, zero, suc, ◌+◌, ◌-◌, ◌≤◌, ◌<◌, max, zero-le}
 use mathlib.Core.Path.{◌≡◌, refl, sym, ap, subst, ◌∙◌}
-use mathlib.Core.Logic.{◌⊎◌, inl, inr, ⊎_elim}
+use mathlib.Core.Logic.{inl, inr, ⊎_elim}
 use mathlib.Core.List.{List, [], ◌∷◌, ◌++◌, append_assoc}
 use mathlib.Core.Bool.{Bool, true, false, cond}
 use mathlib.Core.Option.{Option, none, some}
@@ -18,13 +18,11 @@ use native.Mathlib.Omega.{arith}
 use borrow.Author.Tests.{leb-true, leb-false, eqb-true}
 use lib.Dec.{T, leb, eqb}
 use lib.ListN.{length, take, drop}
-use Rattle.sets.specs.Lists.{In, some?, greatest, better}
+use Rattle.sets.specs.Lists.{In, greatest, better}
 use Rattle.sets.proofs.TestLaws.{or_l, or_r, or_cases}
 use Rattle.lists.specs.Shape.{c_word, p_word, e_word}
-use Rattle.lists.specs.Expect.{Piece, letter, space, number, more, anything, Pieces, Grammar, next, onward, takes, follow, reach, left, permits, Begins, Due, Astray, furthest, column, digit_at, fault_at_lem, fault_in, spot_in, of_shape, spelled, two_numbers, clash_lines, permitted, spot_of}
-use Rattle.lists.specs.declared.Fault.{Fault}
-use Rattle.lists.specs.declared.Fault.TheVariants.{Line, Digit, Space, Unended}
-use Rattle.lists.specs.declared.Spot.{Spot}
+use Rattle.lists.specs.Expect.{letter, space, number, more, anything, Pieces, Grammar, onward, takes, follow, reach, left, permits, Begins, Due, Astray, furthest, column, digit_at, fault_at_lem, fault_in, spot_in, of_shape, spelled, two_numbers, clash_lines, permitted, spot_of}
+use Rattle.lists.specs.declared.Fault.TheVariants.{Line, Unended}
 use Rattle.lists.proofs.Reach.{Fit, reach_le, reach_begins, reach_most, reach_follow, takes_reach}
 
 abbrev pub AllFit : Grammar → Type 0

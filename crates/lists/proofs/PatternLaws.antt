@@ -1,21 +1,19 @@
 -- A pattern, byte by byte: what is expected next, the fault where it does not stand there, and a line that follows it. Assumes nothing.
 use Prim.Native.Nat.{ℕ, zero, suc, ◌+◌, ◌-◌, ◌≤◌, ◌<◌}
-use mathlib.Core.Path.{◌≡◌, refl, sym, ap, subst, ◌∙◌}
+use mathlib.Core.Path.{◌≡◌, refl, sym, ap, ◌∙◌}
 use mathlib.Core.List.{List, [], ◌∷◌}
 use mathlib.Core.Bool.{Bool, true, false, cond}
-use mathlib.Core.Option.{Option, none, some}
-use native.Mathlib.Nat.{add-zero, not-suc-le-zero}
+use mathlib.Core.Option.{none, some}
+use native.Mathlib.Nat.{add-zero}
 use native.Mathlib.Omega.{arith}
 use borrow.Author.Tests.{eq-eqb, ne_eqb, eqb-true}
-use lib.Dec.{T, eqb}
+use lib.Dec.{eqb}
 use lib.ListN.{length, drop, get_or, drop_of_length-le}
 use Rattle.lines.specs.Number.{digit}
 use Rattle.lines.proofs.Basics.{from}
-use Rattle.lists.specs.Expect.{Piece, letter, space, number, more, anything, Pieces, next, ends?, onward, takes, reach, left, digit_at, fault_at_lem}
+use Rattle.lists.specs.Expect.{Piece, letter, space, number, more, anything, Pieces, next, ends?, reach, fault_at_lem}
 use Rattle.lists.specs.Pattern.{piece_of, pattern_of, held, spot_from}
-use Rattle.lists.specs.declared.Fault.{Fault}
-use Rattle.lists.specs.declared.Fault.TheVariants.{Line, Digit, Space, Unended}
-use Rattle.lists.specs.declared.Spot.{Spot}
+use Rattle.lists.specs.declared.Fault.TheVariants.{Digit, Space, Unended}
 
 -- ---- within a number
 

@@ -4,21 +4,20 @@
 --   shaped s : s is the shape of a permitted line
 --
 -- Assumes nothing.
-use Prim.Native.Nat.{ℕ, zero, suc, ◌+◌, ◌≤◌, ◌<◌, zero-le, suc-le-suc}
+use Prim.Native.Nat.{ℕ, zero, suc, ◌+◌, ◌≤◌, zero-le, suc-le-suc}
 use mathlib.Core.Path.{◌≡◌, refl, sym, ap, subst, ◌∙◌}
-use mathlib.Core.List.{List, [], ◌∷◌, ◌++◌}
+use mathlib.Core.List.{List, [], ◌∷◌}
 use mathlib.Core.Bool.{Bool, true, false, cond, ◌||◌}
 use mathlib.Core.Logic.{◌↔◌}
-use mathlib.Core.Option.{Option, none, some}
+use mathlib.Core.Option.{none, some}
 use native.Mathlib.Nat.{le_of_suc-le-suc, not-suc-le-zero}
-use native.Mathlib.Numerals.{add-one}
 use native.Mathlib.Omega.{arith}
-use borrow.Author.Tests.{le-leb, lt-leb, leb-true, leb-false, eqb-true, eqb-false, eq-eqb, ne_eqb}
+use borrow.Author.Tests.{le-leb, lt-leb, leb-true, leb-false, eqb-true, eqb-false, ne_eqb}
 use lib.Dec.{T, leb, eqb, eqb→eq}
 use lib.ListN.{length, drop, get_or}
 use lib.Seq.{drop-drop}
 use Rattle.sets.proofs.TestLaws.{T-ext, eqb_of}
-use Rattle.lines.specs.Number.{digit, digits, value, proper, number_of}
+use Rattle.lines.specs.Number.{digit, digits, value, proper}
 use Rattle.lines.specs.Words.{starts, whole, alone_of, besides, second, pair_of}
 use Rattle.lines.specs.declared.Front.TheVariants.{Is, Not}
 use Rattle.lines.specs.declared.Alone.{Alone}
@@ -28,7 +27,7 @@ use Rattle.lines.specs.declared.Pair.TheVariants.{Both, Neither}
 use Rattle.lists.specs.Shape.{c_word, p_word, e_word, as_p, as_e, shape_with, shape_of}
 use Rattle.lists.specs.declared.Shape.{Shape}
 use Rattle.lists.specs.declared.Shape.TheVariants.{Comment, P, E, Bad}
-use Rattle.lists.specs.Expect.{Piece, letter, space, number, more, anything, Pieces, next, ends?, onward, takes, permits, spelled, two_numbers, clash_lines, permitted}
+use Rattle.lists.specs.Expect.{letter, space, number, more, anything, Pieces, next, ends?, onward, takes, permits, spelled, two_numbers, clash_lines, permitted}
 
 abbrev pub shaped : Shape → Bool
 shaped Bad = false

@@ -2,7 +2,7 @@
 --
 --   Fit g       : behind a number comes a space or the end; so that what is expected can always be met
 --   finishing g : bytes that meet g
-use Prim.Native.Nat.{ℕ, zero, suc, ◌+◌, ◌≤◌, ◌<◌, zero-le, suc-le-suc}
+use Prim.Native.Nat.{ℕ, zero, suc, ◌≤◌, ◌<◌, zero-le, suc-le-suc}
 use mathlib.Core.Path.{◌≡◌, refl, sym, ap, subst, ◌∙◌}
 use mathlib.Core.List.{List, [], ◌∷◌, ◌++◌}
 use mathlib.Core.Bool.{Bool, true, false, cond}
@@ -13,7 +13,7 @@ use lib.Dec.{T, eqb}
 use lib.ListN.{length, take, get_or}
 use Rattle.sets.proofs.TestLaws.{eqb_same}
 use Rattle.lines.specs.Number.{digit}
-use Rattle.lists.specs.Expect.{Piece, letter, space, number, more, anything, Pieces, next, ends?, onward, takes, follow, reach, left}
+use Rattle.lists.specs.Expect.{letter, space, number, more, anything, Pieces, next, ends?, onward, takes, follow, reach, left}
 
 abbrev Closed : Pieces → Type 0
 Closed [] = Unit {0}

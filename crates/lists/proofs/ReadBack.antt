@@ -2,7 +2,7 @@
 -- twice; and with too few rows lent both refuse it alike.
 --
 --   New g es : the rows g have none of the edges es
-use Prim.Native.Nat.{ℕ, suc, ◌+◌, ◌-◌, ◌*◌, ◌≤◌, ◌<◌}
+use Prim.Native.Nat.{ℕ, suc, ◌+◌, ◌-◌, ◌≤◌, ◌<◌}
 use mathlib.Core.Path.{◌≡◌, refl, sym, ap, subst, ◌∙◌}
 use mathlib.Core.List.{List, [], ◌∷◌, ◌++◌}
 use mathlib.Core.Bool.{Bool, true, false, cond, ◌&&◌}
@@ -12,7 +12,7 @@ use native.Mathlib.Decide.{dec_lt}
 use native.Mathlib.Omega.{arith}
 use borrow.Author.Tests.{le-leb, lt-leb, eq-eqb, ne_eqb}
 use lib.Dec.{T, leb}
-use lib.ListN.{length, take, drop, get_or, length-append, length-replicate}
+use lib.ListN.{length, take, drop, get_or, length-replicate}
 use lib.Seq.{ext_get_or, get_or-take, length-take-le}
 use Rattle.sets.specs.Lists.{In, NoDup}
 use Rattle.sets.proofs.TestLaws.{T?, T-ext, T→false}

@@ -1,20 +1,18 @@
 -- The spot of a line is that along the one pattern which its first byte begins; a line that begins none is at fault at its first byte. Assumes nothing.
-use Prim.Native.Nat.{ℕ, zero, suc, ◌+◌, ◌≤◌, ◌<◌, max}
+use Prim.Native.Nat.{ℕ, ◌+◌, ◌≤◌, ◌<◌}
 use mathlib.Core.Path.{◌≡◌, refl, sym, ap, subst, ◌∙◌}
 use mathlib.Core.List.{List, [], ◌∷◌}
 use mathlib.Core.Bool.{Bool, true, false, cond, ◌||◌}
-use mathlib.Core.Option.{Option, none, some}
+use mathlib.Core.Option.{Option, some}
 use native.Mathlib.Omega.{arith}
 use borrow.Author.Tests.{le-leb, lt-leb, eqb-true}
-use lib.Dec.{T, leb, eqb}
-use lib.ListN.{drop}
+use lib.Dec.{T, eqb}
 use Rattle.sets.specs.Lists.{greatest, better}
 use Rattle.lines.specs.Words.{starts}
 use Rattle.lists.specs.Shape.{c_word, p_word, e_word}
-use Rattle.lists.specs.Expect.{Pieces, next, onward, anything, takes, reach, left, permits, furthest, digit_at, fault_at_lem, fault_in, spot_in, spelled, two_numbers, permitted, spot_of}
-use Rattle.lists.specs.Pattern.{pattern_of, spot_from}
+use Rattle.lists.specs.Expect.{Pieces, anything, takes, reach, permits, furthest, fault_in, spot_in, spelled, two_numbers, permitted, spot_of}
+use Rattle.lists.specs.Pattern.{spot_from}
 use Rattle.lists.specs.declared.Fault.TheVariants.{Line, Unended}
-use Rattle.lists.specs.declared.Spot.{Spot}
 use Rattle.lists.proofs.PatternLaws.{spot_stuck}
 
 -- the lines of a clash text

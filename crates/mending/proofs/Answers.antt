@@ -1,9 +1,9 @@
 -- The call's answers: what was gone through is what mends says, and the output is all that was put.
-use Prim.Native.Nat.{ℕ, zero, suc, ◌+◌, ◌≤◌, ◌<◌}
+use Prim.Native.Nat.{ℕ, ◌+◌, ◌≤◌, ◌<◌}
 use mathlib.Core.Path.{◌≡◌, refl, sym, ap, subst, ◌∙◌}
 use mathlib.Core.Logic.{⊎_elim}
 use mathlib.Core.List.{List, [], ◌∷◌, ◌++◌, map, append_assoc}
-use mathlib.Core.Bool.{Bool, true, false, cond}
+use mathlib.Core.Bool.{Bool, cond}
 use native.Mathlib.Decide.{ℕ_discrete}
 use native.Mathlib.Omega.{arith}
 use borrow.Author.Tests.{le-leb, lt-leb}
@@ -31,13 +31,13 @@ use Rattle.texts.proofs.ListMeaning.{list_valid}
 use Rattle.mends.specs.declared.Mended.{Mended}
 use Rattle.mends.specs.declared.Mended.TheVariants.{Written, Unread, Refused, Full}
 use Rattle.mends.specs.Typed.{Typed, is, faulty, typed_of}
-use Rattle.mends.specs.Mend.{none, Going, closed, group_of, member_of_lem, start as nothing_gone, gone, again, admit, group_place, mended}
+use Rattle.mends.specs.Mend.{none, Going, closed, group_of, start as nothing_gone, gone, again, admit, group_place, mended}
 use Rattle.mends.specs.Report.{dropped_lines, dropped_text, put_text, output_text}
 use Rattle.mends.specs.Promise.{Mending, printed, refused, mend_typed, mend_sheet_lem, against_up_to, mend_of, answer_of, left_of, MendPromise}
 use Rattle.mends.proofs.Groups.{Apart}
 use Rattle.mends.proofs.MendedLaws.{mended_has, mended_apart}
 use Rattle.mends.proofs.Sheets.{Headed, headed}
-use Rattle.mending.specs.Held.{RowsAt, going_of, dropped_of, Ran, whole, failed, run, ran_by, HeldBy, ThroughOf}
+use Rattle.mending.specs.Held.{RowsAt, going_of, dropped_of, whole, failed, run, ran_by, HeldBy, ThroughOf}
 use Rattle.mending.specs.Places.{sets_of, AgainOf, Everyone, NumberedOf}
 use Rattle.mending.specs.Calls.{GoneAs, WholeAs, mended_of, Answered}
 use Rattle.mending.specs.declared.Gone.{Gone}

@@ -1,27 +1,26 @@
 -- One member more, and a group at its end, in the words that hold them.
 use Prim.Native.Nat.{ℕ, suc, ◌+◌, ◌-◌, ◌≤◌, ◌<◌}
 use mathlib.Core.Path.{◌≡◌, refl, sym, ap, subst, fun_ext, ◌∙◌}
-use mathlib.Core.Logic.{◌≢◌, ⊎_elim}
+use mathlib.Core.Logic.{◌≢◌}
 use mathlib.Core.List.{List, [], ◌∷◌, ◌++◌, map, map-append, append-nil}
 use mathlib.Core.Bool.{Bool, true, false, cond, not, ◌&&◌, ◌||◌}
 use native.Mathlib.Numerals.{add-one}
 use native.Mathlib.Omega.{arith}
 use borrow.Author.Tests.{ne_eqb}
-use lib.Dec.{T, eqb, eqb→eq}
+use lib.Dec.{T, eqb}
 use lib.ListN.{length, take, set, get_or, length-set, length-append}
 use lib.Seq.{take-suc-set}
-use Rattle.sets.specs.Lists.{bit, put, any, upto}
+use Rattle.sets.specs.Lists.{bit, put, any}
 use Rattle.sets.specs.Set.{has, size, IsWith, IsMeet}
-use Rattle.sets.proofs.TestLaws.{and_l, and_r, or_r, or_false, bit_few, bit_one, bit_zero, eqb_of, T→true, T→false, any_make, any_get}
+use Rattle.sets.proofs.TestLaws.{and_r, or_r, or_false, bit_few, bit_one, bit_zero, eqb_of, T→true, T→false, any_make, any_get}
 use Rattle.sets.proofs.MemberLaws.{count_but, count_few}
 use Rattle.sets.proofs.SetLaws.{has_none, some_member}
 use Rattle.clashes.specs.Matrix.{matrix}
 use Rattle.lines.specs.Numeral.{numeral, one_line}
 use Rattle.lines.proofs.Writing.{one_length}
 use Rattle.lines.proofs.Back.{numeral_length}
-use Rattle.sheets.specs.Sound.{Within}
 use Rattle.sheets.proofs.Sets.{empty_is, empty_within, with_within}
-use Rattle.mends.specs.Mend.{none, with, Going, taken, clashes, lifting, keeping, member_of_lem, closed}
+use Rattle.mends.specs.Mend.{Going, taken, clashes, lifting, keeping, member_of_lem, closed}
 use Rattle.mends.specs.Report.{dropped_word, dropped_text}
 use Rattle.mends.proofs.Sorted.{taken_is}
 use Rattle.mending.specs.Held.{RowsAt, going_of, full, FitsAt, dropped_more}

@@ -1,7 +1,7 @@
 -- Entries put again: which they are, the first group that admits one, and what the groups are then.
 use Prim.Native.Nat.{ℕ, zero, suc, ◌+◌, ◌-◌, ◌^◌, ◌≤◌, ◌<◌, suc-le-suc, zero-le}
-use mathlib.Core.Path.{◌≡◌, refl, sym, ap, subst, fun_ext, ◌∙◌}
-use mathlib.Core.Logic.{◌⊎◌, inl, inr, ◌≢◌, ⊎_elim}
+use mathlib.Core.Path.{◌≡◌, sym, ap, subst, fun_ext, ◌∙◌}
+use mathlib.Core.Logic.{⊎_elim}
 use mathlib.Core.List.{List, [], ◌∷◌, ◌++◌, map}
 use mathlib.Core.Bool.{Bool, true, false, cond, not, ◌&&◌, ◌||◌}
 use native.Mathlib.Nat.{le_of_suc-le-suc, not-suc-le-zero}
@@ -10,17 +10,17 @@ use native.Mathlib.Decide.{dec_lt}
 use native.Mathlib.Omega.{arith}
 use borrow.Author.Tests.{lt-ltb}
 use lib.Bits.{bit_and}
-use lib.Dec.{T, eqb, ltb, ltb→lt}
-use lib.ListN.{length, take, set, get_or, length-set}
+use lib.Dec.{T, eqb, ltb→lt}
+use lib.ListN.{length, take, set, get_or}
 use lib.Seq.{take-suc-set, take-set-lt, length-take-le, get_or-take}
-use Rattle.sets.specs.Lists.{bit, count, upto, members, over}
+use Rattle.sets.specs.Lists.{bit, count, upto, members}
 use Rattle.sets.specs.Set.{has, size, IsWith, IsWithout, IsJoin, IsLess, IsBelow, IsLowest}
-use Rattle.sets.proofs.TestLaws.{and_l, and_r, or_cases, t_not, bit_one, bit_zero, T?}
+use Rattle.sets.proofs.TestLaws.{and_l, and_r, or_cases, t_not}
 use Rattle.sets.proofs.MemberLaws.{count_upto, members_agree, members_none, members_narrow}
 use Rattle.sets.proofs.SetLaws.{has_none, without_is, size_without, members_cons}
 use Rattle.sheets.specs.Sound.{Within}
-use Rattle.mends.specs.Mend.{none, with, clashes, admit, again}
-use Rattle.mending.specs.Held.{going_of, FitsAt}
+use Rattle.mends.specs.Mend.{with, clashes, admit}
+use Rattle.mending.specs.Held.{FitsAt}
 use Rattle.mending.specs.Places.{sets_of, AgainOf, FirstOf}
 use Rattle.mending.specs.declared.Gone.{Gone}
 use Rattle.mending.specs.declared.Groups.{Groups}

@@ -3,12 +3,12 @@
 --   Along  : the rest of the sheet, with what is known, comes to what the whole comes to
 --   Turned : with what is known next, it comes to what it came to
 use Prim.Native.Nat.{ℕ, ◌+◌, ◌-◌, ◌≤◌, ◌<◌}
-use mathlib.Core.Path.{◌≡◌, refl, sym, ap, subst, ◌∙◌}
-use mathlib.Core.List.{List, [], ◌∷◌, ◌++◌}
+use mathlib.Core.Path.{◌≡◌, refl, sym, ap, ◌∙◌}
+use mathlib.Core.List.{List, []}
 use mathlib.Core.Bool.{Bool, true, false, cond, not}
 use native.Mathlib.Omega.{arith}
 use lib.ListN.{length, take, drop, length-append, drop_of_length-le}
-use Rattle.sets.specs.Lists.{put, over}
+use Rattle.sets.specs.Lists.{put}
 use Rattle.sets.specs.Set.{has}
 use Rattle.clashes.specs.Matrix.{matrix}
 use Rattle.lines.specs.Text.{Text, lines_of, line_end_lem}
@@ -21,10 +21,10 @@ use Rattle.mends.specs.declared.Counts.{Counts}
 use Rattle.mends.specs.declared.Step.{Step}
 use Rattle.mends.specs.declared.Step.TheVariants.{Stop, Groups, Size, Member}
 use Rattle.mends.specs.Typed.{Typed, is, faulty, member, group, after, step_of, met, typed_from, typed_of, start as no_counts}
-use Rattle.mends.specs.Mend.{none, Going, taken, sees, member_of_lem, closed, start as nothing_gone}
+use Rattle.mends.specs.Mend.{Going, taken, sees, member_of_lem, closed, start as nothing_gone}
 use Rattle.mends.specs.Report.{dropped_word, dropped_text}
 use Rattle.mends.proofs.Seen.{member_seen}
-use Rattle.mending.specs.Held.{going_of, FitsAt, start, cut_of, dropped_more, drops_of, dropped_at, dropped_of, whole, failed, run, HeldBy, ThroughOf}
+use Rattle.mending.specs.Held.{going_of, FitsAt, start, cut_of, drops_of, dropped_at, dropped_of, whole, run, ThroughOf}
 use Rattle.mending.specs.declared.Gone.{Gone}
 use Rattle.mending.specs.declared.Shape.TheVariants.{Whole, Faulty}
 use Rattle.mending.proofs.HeldLaws.{drops_most, Membered}

@@ -1,16 +1,15 @@
 -- What follows from the promise of a call that mends a sheet, for any limits.
-use Prim.Native.Nat.{ℕ, suc, ◌≤◌, ◌<◌}
-use mathlib.Core.Path.{◌≡◌, refl, sym, ap, subst, ◌∙◌}
+use Prim.Native.Nat.{ℕ, ◌≤◌, ◌<◌}
+use mathlib.Core.Path.{◌≡◌, refl, sym, ap, ◌∙◌}
 use mathlib.Core.Logic.{◌⊎◌, inl, inr}
 use mathlib.Core.List.{List, [], ◌++◌}
 use mathlib.Core.Bool.{Bool, true, false, cond}
 use native.Mathlib.Omega.{arith}
 use borrow.Author.Tests.{leb-true, leb-false, le-leb}
-use lib.Dec.{leb, eqb}
+use lib.Dec.{leb}
 use lib.ListN.{length, take, drop}
-use Rattle.sets.specs.Lists.{count}
-use Rattle.clashes.specs.Divisions.{at, groups}
-use Rattle.clashes.specs.Matrix.{matrix, Valid}
+use Rattle.clashes.specs.Divisions.{groups}
+use Rattle.clashes.specs.Matrix.{matrix}
 use Rattle.lines.specs.Text.{lines_of}
 use Rattle.lines.specs.Numeral.{over}
 use Rattle.lists.specs.Read.{read_up_to}
@@ -32,7 +31,7 @@ use Rattle.texts.proofs.ListRefused.{list_refused}
 use Rattle.texts.proofs.ListMeaning.{list_valid, list_taken}
 use Rattle.texts.proofs.CheckCalls.{check_taken, check_accepted}
 use Rattle.mends.specs.Typed.{Typed, is, faulty, typed_of}
-use Rattle.mends.specs.Mend.{gone, mended}
+use Rattle.mends.specs.Mend.{mended}
 use Rattle.mends.specs.Report.{output_text}
 use Rattle.mends.specs.Promise.{Mending, printed, unread, refused, mend_typed, mend_sheet_up_to, against_up_to, mend_up_to, answer_of, left_of, MendPromiseUpTo}
 use Rattle.mends.specs.declared.Mended.{Mended}

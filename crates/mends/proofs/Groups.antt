@@ -11,8 +11,8 @@ use mathlib.Core.List.{List, [], ◌∷◌, ◌++◌}
 use mathlib.Core.Bool.{Bool, true, false, cond, ◌&&◌, ◌||◌}
 use native.Mathlib.Omega.{arith}
 use lib.Dec.{T, eqb, eqb→eq}
-use Rattle.sets.specs.Lists.{In, NoDup, put, some?, any, over}
-use Rattle.sets.proofs.TestLaws.{and_t, or_l, or_r, or_cases, eqb_of, T→true, T→false, any_make, any_get}
+use Rattle.sets.specs.Lists.{In, NoDup, put, some?, over}
+use Rattle.sets.proofs.TestLaws.{and_t, or_l, or_r, or_cases, eqb_of, T→true, T→false, any_make}
 use Rattle.clashes.specs.Matrix.{Valid}
 use Rattle.mends.specs.Mend.{none, with, clashes, admit, group_place}
 

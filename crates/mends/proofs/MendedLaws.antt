@@ -1,18 +1,18 @@
 -- What mending makes is a clash-free division of the entries; and two that were kept in one group of the sheet stand in one group of it.
 use Prim.Native.Nat.{ℕ, ◌<◌}
-use mathlib.Core.Path.{◌≡◌, refl, sym, subst}
+use mathlib.Core.Path.{◌≡◌, sym, subst}
 use mathlib.Core.List.{List}
 use mathlib.Core.Bool.{Bool, not}
 use native.Mathlib.Decide.{ℕ_discrete}
 use lib.Dec.{T}
-use Rattle.sets.specs.Lists.{In, members}
+use Rattle.sets.specs.Lists.{In}
 use Rattle.sets.proofs.TestLaws.{T?, not_t, t_not}
 use Rattle.sets.proofs.MemberLaws.{In-members, members-In, members_no_dup}
-use Rattle.clashes.specs.Divisions.{at, Division, division, clash_free}
+use Rattle.clashes.specs.Divisions.{at, Division, clash_free}
 use Rattle.clashes.specs.Matrix.{Valid}
 use Rattle.clashes.proofs.ColouringLaws.{proper_free}
 use Rattle.clashes.proofs.DivisionLaws.{division_canon, division_length, division_same, division_diff}
-use Rattle.mends.specs.Mend.{Going, gone, again, mended_groups, group_place, mended}
+use Rattle.mends.specs.Mend.{gone, again, mended_groups, group_place, mended}
 use Rattle.mends.proofs.Groups.{has, AllFree, Apart, OneGroup, over_free, over_old, over_new, over_apart, over_one, one_place, free_apart}
 use Rattle.mends.proofs.Sorted.{gone_sorted, again_homeless}
 

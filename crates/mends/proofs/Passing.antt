@@ -7,28 +7,26 @@
 use Prim.Native.Nat.{ℕ, zero, suc, ◌+◌, ◌-◌, ◌≤◌, ◌<◌, zero-le}
 use mathlib.Core.Path.{◌≡◌, refl, sym, ap, subst, ◌∙◌}
 use mathlib.Core.Logic.{◌⊎◌, inl, inr, ⊎_elim}
-use mathlib.Core.List.{List, [], ◌∷◌, ◌++◌, map, append-nil}
+use mathlib.Core.List.{List, [], ◌∷◌, ◌++◌, map}
 use mathlib.Core.Bool.{Bool, true, false, cond, not, ◌&&◌, ◌||◌}
 use native.Mathlib.Decide.{ℕ_discrete, dec_lt}
 use native.Mathlib.Omega.{arith}
 use lib.Dec.{T}
 use lib.ListN.{length}
-use Rattle.sets.specs.Lists.{In, put, any, members, over}
-use Rattle.sets.proofs.TestLaws.{and_t, or_l, or_r, or_cases, T→true, T→false, not_t, t_not, any_make, any_get, and_l, and_r}
+use Rattle.sets.specs.Lists.{In, put, any, over}
+use Rattle.sets.proofs.TestLaws.{and_t, or_cases, T→true, T→false, not_t, t_not, any_make, any_get, and_l, and_r}
 use Rattle.sets.proofs.ListLaws.{map-In}
 use Rattle.sets.proofs.MemberLaws.{members_none}
-use Rattle.clashes.specs.Divisions.{at, Canon, groups, Division, division, clash_free}
-use Rattle.clashes.specs.Matrix.{Valid}
+use Rattle.clashes.specs.Divisions.{at, Canon, groups, division, clash_free}
 use Rattle.clashes.proofs.ColouringLaws.{free_proper, canon_below}
 use Rattle.clashes.proofs.DivisionLaws.{division_unique}
 use Rattle.lists.specs.Read.{inside}
 use Rattle.sheet_texts.specs.Sheet.{members_of}
-use Rattle.sheet_texts.proofs.Groups.{Rising, rising-In, Led, group_led, members_risen, member_of, of_member}
-use Rattle.mends.specs.Mend.{none, with, Going, taken, clashes, keeping, lifting, sees, member_of_lem, closed, group_of, start, gone, again, admit, mended_groups, group_place, mended}
+use Rattle.sheet_texts.proofs.Groups.{Rising, rising-In, group_led, members_risen, member_of, of_member}
+use Rattle.mends.specs.Mend.{none, with, Going, taken, clashes, keeping, lifting, sees, member_of_lem, closed, group_of, start, gone, again, admit, group_place, mended}
 use Rattle.mends.specs.Report.{dropped_in, dropped_lines, dropped_text, put_text, report_text}
-use Rattle.mends.proofs.Groups.{has, with_cases, with_old, with_new}
+use Rattle.mends.proofs.Groups.{with_cases, with_old, with_new}
 use Rattle.mends.proofs.Seen.{entry_inside, seen_was}
-use Rattle.mends.proofs.MendedLaws.{mended_division, mended_free}
 
 abbrev pub sheet_groups_from : List ℕ → ℕ → ℕ → List (List ℕ)
 sheet_groups_from c g zero = []

@@ -2,31 +2,30 @@
 use Prim.Native.Nat.{ℕ, zero, suc, ◌+◌, ◌-◌, ◌≤◌, ◌<◌}
 use mathlib.Core.Path.{◌≡◌, refl, sym, ap, subst, ◌∙◌}
 use mathlib.Core.List.{List, [], ◌∷◌, ◌++◌, map, append_assoc, append-nil}
-use mathlib.Core.Bool.{Bool, true, false, cond}
+use mathlib.Core.Bool.{Bool, true, false}
 use native.Mathlib.Numerals.{add-one}
 use native.Mathlib.Decide.{dec_lt}
 use native.Mathlib.Omega.{arith}
 use borrow.Author.Tests.{le-leb, eqb-true, ne_eqb, eq-eqb}
 use lib.Dec.{T, eqb}
 use lib.ListN.{length}
-use Rattle.sets.specs.Lists.{In, bit, put, count}
-use Rattle.sets.proofs.ListLaws.{count_append, count_map}
+use Rattle.sets.specs.Lists.{bit, put, count}
+use Rattle.sets.proofs.ListLaws.{count_append}
 use Rattle.clashes.specs.Divisions.{at, Canon, groups}
 use Rattle.clashes.proofs.DivisionLaws.{groups_fit}
 use Rattle.clashes.proofs.ColouringLaws.{canon_below}
 use Rattle.lines.specs.Text.{Text, lines_of}
 use Rattle.lines.specs.Numeral.{numeral, one_line}
 use Rattle.lines.specs.declared.Alone.{Alone}
-use Rattle.lines.specs.declared.Alone.TheVariants.{Only}
 use Rattle.lines.proofs.Back.{alone_back, one_back}
 use Rattle.sheets.specs.Check.{groups_word, size_word}
-use Rattle.sheet_texts.specs.Sheet.{members_of, member_lines, group_text, groups_text, sheet_text}
+use Rattle.sheet_texts.specs.Sheet.{members_of, member_lines, groups_text, sheet_text}
 use Rattle.sheet_texts.proofs.Members.{members_le}
-use Rattle.sheet_texts.proofs.Groups.{Rising, Led, group_led, members_risen}
+use Rattle.sheet_texts.proofs.Groups.{Rising, group_led, members_risen}
 use Rattle.mends.specs.declared.Counts.{Counts}
 use Rattle.mends.specs.declared.Step.{Step}
-use Rattle.mends.specs.declared.Step.TheVariants.{Groups, Size, Member}
-use Rattle.mends.specs.Typed.{Typed, is, member, group, step_of, groups_of, size_of, member_of_lem, after, typed_from, start, typed_of}
+use Rattle.mends.specs.declared.Step.TheVariants.{Size, Member}
+use Rattle.mends.specs.Typed.{Typed, is, member, group, step_of, groups_of, after, typed_from, typed_of}
 use Rattle.mends.proofs.Seen.{flat}
 use Rattle.mends.proofs.Passing.{sheet_groups_from, sheet_groups}
 

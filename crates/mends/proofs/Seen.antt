@@ -11,8 +11,7 @@ use native.Mathlib.Omega.{arith}
 use borrow.Author.Tests.{le-leb}
 use lib.Dec.{T, eqb, eqb→eq}
 use Rattle.sets.specs.Lists.{In, some?, over}
-use Rattle.sets.proofs.TestLaws.{and_t, or_l, or_r, or_cases, not_t, eqb_of, T→true, T→false, T-ext, T?}
-use Rattle.sets.proofs.ListLaws.{In-append, In-append_l, In-append_r}
+use Rattle.sets.proofs.TestLaws.{and_t, or_l, or_r, or_cases, not_t, eqb_of, T→true, T-ext, T?}
 use Rattle.lists.specs.Read.{inside}
 use Rattle.lists.proofs.Fold.{inside_is}
 use Rattle.mends.specs.Mend.{none, with, Going, taken, clashes, lifting, keeping, sees, member_of_lem, group_of, start, gone}

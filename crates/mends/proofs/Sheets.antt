@@ -3,13 +3,13 @@
 --
 --   Fitting most longest : every sheet of up to `most` entries has at most `longest` bytes, and its numbers at most 7 digits
 use Prim.Native.Nat.{ℕ, ◌+◌, ◌≤◌, ◌<◌}
-use mathlib.Core.Path.{◌≡◌, refl, sym, ap, subst, ◌∙◌}
+use mathlib.Core.Path.{◌≡◌, refl, sym, ap, ◌∙◌}
 use mathlib.Core.Logic.{◌⊎◌, inl, inr}
 use mathlib.Core.List.{List, [], ◌∷◌, ◌++◌}
 use mathlib.Core.Bool.{Bool, true, false, cond}
 use native.Mathlib.Omega.{arith}
 use borrow.Author.Tests.{leb-true, leb-false, le-leb}
-use lib.Dec.{T, leb}
+use lib.Dec.{leb}
 use lib.ListN.{length}
 use Rattle.clashes.specs.Divisions.{Canon, groups}
 use Rattle.clashes.specs.Matrix.{Valid}
@@ -24,12 +24,11 @@ use Rattle.sheet_texts.specs.Sheet.{sheet_text}
 use Rattle.sheet_texts.proofs.Lengths.{sheet_fits}
 use Rattle.texts.specs.Sheets.{SheetOf}
 use Rattle.mends.specs.declared.Counts.{Counts}
-use Rattle.mends.specs.declared.Step.{Step}
-use Rattle.mends.specs.declared.Step.TheVariants.{Stop, Groups, Size, Member}
-use Rattle.mends.specs.Typed.{Typed, is, faulty, member, group, step_of, groups_of, size_of, after, typed_from, start, typed_of}
+use Rattle.mends.specs.declared.Step.TheVariants.{Stop, Size}
+use Rattle.mends.specs.Typed.{Typed, is, faulty, group, groups_of, size_of, after, typed_from, typed_of}
 use Rattle.mends.specs.Mend.{mended}
-use Rattle.mends.specs.Report.{report_text, output_text}
-use Rattle.mends.specs.Promise.{Mending, printed, refused, mend_typed, mend_sheet_up_to}
+use Rattle.mends.specs.Report.{output_text}
+use Rattle.mends.specs.Promise.{printed, refused, mend_typed, mend_sheet_up_to}
 use Rattle.mends.proofs.MendedLaws.{mended_division, mended_free}
 use Rattle.mends.proofs.Passing.{sheet_groups, passing_same, passing_silent}
 use Rattle.mends.proofs.Retyped.{sheet_typed}

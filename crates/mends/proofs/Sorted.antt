@@ -2,13 +2,13 @@
 --
 --   Sorted g : this, of what is known
 use Prim.Native.Nat.{ℕ, ◌-◌, ◌≤◌, ◌<◌}
-use mathlib.Core.Path.{◌≡◌, refl, sym, ap, subst, ◌∙◌}
+use mathlib.Core.Path.{◌≡◌, refl, sym, subst}
 use mathlib.Core.Logic.{◌⊎◌, inl, inr, ⊎_elim}
-use mathlib.Core.List.{List, [], ◌∷◌, ◌++◌}
-use mathlib.Core.Bool.{Bool, true, false, cond, not, ◌&&◌, ◌||◌}
+use mathlib.Core.List.{List, [], ◌∷◌}
+use mathlib.Core.Bool.{Bool, true, false, not, ◌||◌}
 use native.Mathlib.Omega.{arith}
 use lib.Dec.{T}
-use Rattle.sets.specs.Lists.{put, any, members, over}
+use Rattle.sets.specs.Lists.{any, members, over}
 use Rattle.sets.proofs.TestLaws.{and_l, and_r, or_l, or_r, or_cases, not_t, t_not, T→true, T-ext, T?, any_make}
 use Rattle.sets.proofs.MemberLaws.{members_agree}
 use Rattle.clashes.specs.Matrix.{Valid}

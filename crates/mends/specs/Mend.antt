@@ -19,7 +19,7 @@
 --
 -- That "seen before" is just that the same number stands earlier in the sheet is `seen_stands` of proofs/Seen.antt; that lifted and absent entries are just
 -- those that no group kept, `again_homeless` of proofs/Sorted.antt. Assumes nothing.
-use Rattle.std.specs.Prelude.{ℕ, suc, ◌-◌, List, [], ◌∷◌, ◌++◌, Bool, true, false, cond, not, ◌&&◌, ◌||◌, eqb}
+use Rattle.std.specs.Prelude.{ℕ, suc, ◌-◌, List, [], ◌∷◌, ◌++◌, Bool, false, cond, not, ◌&&◌, ◌||◌, eqb}
 use Rattle.std.proofs.Math.Decide.{ℕ_discrete}
 use Rattle.sets.specs.Lists.{put, any, members, over}
 use Rattle.clashes.specs.Divisions.{division}

@@ -16,7 +16,6 @@ use Rattle.clashes.specs.Matrix.{matrix}
 use Rattle.lines.specs.Text.{Text, ended}
 use Rattle.lists.specs.Shape.{shape_of}
 use Rattle.lists.specs.Read.{no_rows_up_to, join, start}
-use Rattle.lists.specs.declared.Shape.{Shape}
 use Rattle.lists.specs.declared.Shape.TheVariants.{E}
 use Rattle.lists.specs.declared.Head.{Head}
 use Rattle.lists.proofs.Fold.{join_length}

@@ -4,7 +4,7 @@
 --   Shaped t k f : line k has the fault of shape f
 --
 -- Assumes nothing.
-use Prim.Native.Nat.{ℕ, ◌+◌, ◌-◌, ◌≤◌, ◌<◌}
+use Prim.Native.Nat.{ℕ, ◌-◌, ◌≤◌, ◌<◌}
 use mathlib.Core.Path.{◌≡◌, refl, sym, ap, subst, ◌∙◌}
 use mathlib.Core.Logic.{◌⊎◌, inl, inr, ⊎_elim}
 use mathlib.Core.List.{List, [], ◌∷◌}
@@ -18,9 +18,9 @@ use Rattle.lists.specs.declared.Shape.TheVariants.{Bad}
 use Rattle.lists.specs.declared.Fault.{Fault}
 use Rattle.lists.specs.declared.Fault.TheVariants.{Line, Headless, Second, Size, Room, Vertex, Loop, Count, Long, Repeat, Digit, Space, Unended}
 use Rattle.lists.specs.declared.Spot.{Spot}
-use Rattle.lists.specs.Expect.{Piece, letter, space, number, more, anything, Pieces, permits, Due, Astray, digit_at, fault_at_lem, of_shape, permitted, spot_of}
+use Rattle.lists.specs.Expect.{letter, space, number, more, anything, Pieces, permits, Due, Astray, digit_at, fault_at_lem, of_shape, permitted, spot_of}
 use Rattle.lists.specs.Promise.{number_of}
-use Rattle.lists.proofs.Columns.{astray_one, spot_astray, spot_shape, spot_whole, spot_bad, due_one}
+use Rattle.lists.proofs.Columns.{astray_one, spot_astray, spot_whole, spot_bad, due_one}
 use Rattle.lists.proofs.Permitted.{permitted_bad}
 use Rattle.texts.specs.Faults.{Unended as NoFeed, place, Clean}
 use Rattle.texts.specs.Listed.{At}

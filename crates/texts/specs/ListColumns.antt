@@ -18,7 +18,7 @@ use Rattle.refusals.specs.Table.{number_of, If}
 use Rattle.refusals.specs.declared.Refusal.TheVariants.{Line, Digit, Space, Unended}
 use Rattle.lines.specs.Text.{Text, line_no_lem}
 use Rattle.lists.specs.declared.Shape.TheVariants.{Bad}
-use Rattle.lists.specs.Expect.{Piece, letter, space, number, more, anything, Pieces, Due, Astray, digit_at, permitted}
+use Rattle.lists.specs.Expect.{letter, space, number, more, anything, Pieces, Due, Astray, digit_at, permitted}
 use Rattle.texts.specs.Listed.{At}
 
 abbrev pub line_at : Text → ℕ → List ℕ

@@ -1,5 +1,4 @@
 -- `lists::list_extent` meets its contract: what was counted and what is left make the whole. Assumes nothing.
-use Prim.Native.Nat.{◌-◌}
 use mathlib.Core.Path.{subst}
 use lib.ListN.{length}
 use Rattle.lists.specs.Edges.{edges as all}

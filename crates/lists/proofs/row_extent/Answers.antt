@@ -1,7 +1,6 @@
 -- `lists::row_extent` meets its contract: what was counted and what is left make the whole. Assumes nothing.
 use Prim.Native.Nat.{◌+◌, ◌-◌, ◌*◌, ◌≤◌}
 use mathlib.Core.Path.{sym, ◌∙◌}
-use mathlib.Core.Logic.{⊎_elim}
 use Rattle.lists.specs.Edges.{row_edges}
 use Rattle.lists.proofs.EdgeLaws.{Counted, count_yes, count_no, count_none, count_all, row_end}
 use native.Mathlib.Omega.{arith}

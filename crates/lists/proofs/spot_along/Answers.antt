@@ -1,5 +1,5 @@
 -- `lists::spot_along` meets its contract: what is left of the line, along what is expected of it, has the spot that the whole line has. Assumes nothing.
-use Prim.Native.Nat.{ℕ, ◌+◌, ◌-◌}
+use Prim.Native.Nat.{ℕ, ◌+◌}
 use mathlib.Core.Path.{◌≡◌, refl, sym, ap, subst, ◌∙◌}
 use mathlib.Core.List.{List}
 use mathlib.Core.Bool.{false, cond}

@@ -1,6 +1,5 @@
 -- `mending::go_through` meets its contract: what is left of the sheet, gone through from what is known, comes to what the whole sheet comes to (`Along`).
 -- Assumes nothing.
-use Prim.Native.Nat.{◌-◌}
 use mathlib.Core.Path.{sym, ap, ◌∙◌}
 use native.Mathlib.Omega.{arith}
 use Rattle.mending.specs.declared.Gone.{Gone}
@@ -20,11 +19,11 @@ turned c =
     let st = sym c.line_step.ensures in
     elim c.match-line_step.branch [
       | in-Groups w ↦ turned_groups 64 a.n a.rows.now a.sheet.now c.loop-at.at e.result c.loop-at.line c.loop-at.c c.loop-at.g e.ensures.0 l
-    c.loop-at.invariant.3.fits w.in-Groups.d (st ∙ w.in-Groups.is) _ _ w.c-is w.g-is
+          c.loop-at.invariant.3.fits w.in-Groups.d (st ∙ w.in-Groups.is) _ _ w.c-is w.g-is
       | in-Size w ↦ turned_size 64 a.n a.rows.now a.sheet.now c.loop-at.at e.result c.loop-at.line c.loop-at.c c.loop-at.g e.ensures.0 l
-    w.in-Size.d (st ∙ w.in-Size.is) _ w.closed-g.ensures _ _ w.c-is w.g-is
+          w.in-Size.d (st ∙ w.in-Size.is) _ w.closed-g.ensures _ _ w.c-is w.g-is
       | in-Member w ↦ turned_member 64 a.n a.rows.now a.sheet.now c.loop-at.at e.result c.loop-at.line c.loop-at.c c.loop-at.g e.ensures.0 l
-    w.in-Member.d w.in-Member.u (st ∙ w.in-Member.is) _ w.with_member-g.ensures _ _ w.c-is w.g-is
+          w.in-Member.d w.in-Member.u (st ∙ w.in-Member.is) _ w.with_member-g.ensures _ _ w.c-is w.g-is
     ]
 
 pub loop-at-init : goal.loop-at-init

@@ -1,5 +1,4 @@
 -- `mending::numbers_of` meets its contract: each way out is a case of `numbers_of_lem`. Assumes nothing.
-use Rattle.sheets.proofs.refusal_of.Reads as refusal_of_reads'
 use Rattle.mending.proofs.numbers_of.Goals as goal
 
 pub returns-in-Written : goal.returns-in-Written

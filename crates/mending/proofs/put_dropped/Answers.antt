@@ -1,6 +1,6 @@
 -- `mending::put_dropped` meets its contract: the lines that are left of the sheet, put from here, are all of them put at the start (`Left`).
 -- Assumes nothing.
-use Prim.Native.Nat.{ℕ, ◌+◌, ◌-◌}
+use Prim.Native.Nat.{ℕ, ◌+◌}
 use mathlib.Core.Path.{sym, ap, subst, ◌∙◌}
 use mathlib.Core.Bool.{Bool}
 use native.Mathlib.Omega.{arith}
@@ -29,12 +29,12 @@ turned c =
     let st = sym c.line_step.ensures in
     elim c.match-line_step.branch [
       | in-Groups w ↦ drops_groups a.n a.sheet.now c.loop-at.at e.result c.loop-at.line c.loop-at.c c.loop-at.seen e.ensures.0 l
-    a.out.now _ c.loop-at.out c.loop-at.a c.loop-at.invariant.2 w.in-Groups.d (st ∙ w.in-Groups.is) _ _ _ _ w.out-is w.a-is w.c-is w.seen-is
+          a.out.now _ c.loop-at.out c.loop-at.a c.loop-at.invariant.2 w.in-Groups.d (st ∙ w.in-Groups.is) _ _ _ _ w.out-is w.a-is w.c-is w.seen-is
       | in-Size w ↦ drops_size a.n a.sheet.now c.loop-at.at e.result c.loop-at.line c.loop-at.c c.loop-at.seen e.ensures.0 l
-    a.out.now _ c.loop-at.out c.loop-at.a c.loop-at.invariant.2 w.in-Size.d (st ∙ w.in-Size.is) _ _ _ _ w.out-is w.a-is w.c-is w.seen-is
+          a.out.now _ c.loop-at.out c.loop-at.a c.loop-at.invariant.2 w.in-Size.d (st ∙ w.in-Size.is) _ _ _ _ w.out-is w.a-is w.c-is w.seen-is
       | in-Member w ↦ drops_member a.n a.sheet.now c.loop-at.at e.result c.loop-at.line c.loop-at.c c.loop-at.seen e.ensures.0 l
-    a.out.now _ c.loop-at.out c.loop-at.a c.loop-at.invariant.2 w.in-Member.d w.in-Member.u (st ∙ w.in-Member.is)
-    _ _ w.put_drop-a.ensures _ w.sees-seen.ensures _ _ _ _ w.out-is w.a-is w.c-is w.seen-is
+          a.out.now _ c.loop-at.out c.loop-at.a c.loop-at.invariant.2 w.in-Member.d w.in-Member.u (st ∙ w.in-Member.is)
+          _ _ w.put_drop-a.ensures _ w.sees-seen.ensures _ _ _ _ w.out-is w.a-is w.c-is w.seen-is
     ]
 
 pub loop-at-init : goal.loop-at-init

@@ -1,5 +1,5 @@
 -- `sheet_texts::number` meets its contract: what is left of the bytes, numbered after so many, is what the whole is. Assumes nothing.
-use Prim.Native.Nat.{◌≤◌, ◌+◌, ◌-◌}
+use Prim.Native.Nat.{◌≤◌, ◌+◌}
 use mathlib.Core.Path.{◌≡◌, sym, refl, ◌∙◌}
 use lib.ListN.{drop}
 use native.Mathlib.Omega.{arith}

@@ -1,5 +1,4 @@
 -- `sheet_texts::put_groups` meets its contract: the groups that are left, put from here, are all of them put at the start (`Left`). Assumes nothing.
-use Prim.Native.Nat.{◌-◌}
 use native.Mathlib.Omega.{arith}
 use Rattle.lines.proofs.Writing.{left_begin, left_room, left_put, left_skip, left_none}
 use Rattle.sheet_texts.specs.Sheet.{group_text}

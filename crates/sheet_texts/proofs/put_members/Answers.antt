@@ -1,5 +1,5 @@
 -- `sheet_texts::put_members` meets its contract: the lines that are left, put from here, are all of them put at the start (`Left`). Assumes nothing.
-use Prim.Native.Nat.{◌+◌, ◌-◌}
+use Prim.Native.Nat.{◌+◌}
 use mathlib.Core.Path.{ap}
 use mathlib.Core.List.{[]}
 use lib.ListN.{drop}

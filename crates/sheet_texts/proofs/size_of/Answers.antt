@@ -1,5 +1,5 @@
 -- `sheet_texts::size_of` meets its contract: what was counted and what is left make the whole. Assumes nothing.
-use Prim.Native.Nat.{◌≤◌, ◌+◌, ◌-◌}
+use Prim.Native.Nat.{◌≤◌, ◌+◌}
 use mathlib.Core.Path.{◌≡◌, ap}
 use lib.ListN.{length, drop}
 use native.Mathlib.Omega.{arith}

@@ -1,6 +1,5 @@
 -- `sheets::check_lines` meets its contract: what is left of the sheet, checked with what is known, is what the whole sheet is. Assumes nothing.
 use borrow.Author.Rules.{rules}
-use Prim.Native.Nat.{◌-◌}
 use mathlib.Core.Path.{sym, refl, ◌∙◌}
 use native.Mathlib.Omega.{arith}
 use Rattle.clashes.specs.Matrix.{matrix}
