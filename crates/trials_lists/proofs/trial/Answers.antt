@@ -7,5 +7,5 @@ pub put_list-requires : goal.put_list-requires
 put_list-requires g c =
     let a = c.args in
     let fits : c.in-Read.n ≤ length a.lent.now =
-      subst (Bounded (length a.lent.now)) (sym c.read_list.ensures.answer ∙ c.in-Read.is) (read_fits a.plain a.text.now (length a.lent.now)) in
+    subst (Bounded (length a.lent.now)) (sym c.read_list.ensures.answer ∙ c.in-Read.is) (read_fits a.plain a.text.now (length a.lent.now)) in
     omega (arith, fits)
