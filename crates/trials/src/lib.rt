@@ -1,65 +1,83 @@
-// What the trials have in common: what they print, and whether lent memory that nobody wrote is as it was.
+// What the trials have in common: what they read and print, and whether lent memory that nobody wrote is as it was.
 #![tactic(auto)]
 
-use libc::STDOUT_FILENO;
-use refusals::Refusal;
+ghost use Rattle.std.specs.Prelude.{◌≤◌, IfOk, length};
 
-pub fn put(s: &[u8]) {
-    io::write_all(STDOUT_FILENO, s);
+use refusals::Refusal;
+use std::io;
+use std::io::Read;
+
+pub fn put(rt: &impl Print, s: &[u8]) -> io::Result<()> {
+    rt.write_all(s)
 }
 
-pub fn put_number(n: usize) {
-    io::print_decimal(STDOUT_FILENO, n as u64);
+pub fn put_number(rt: &impl Print, n: usize) -> io::Result<()> {
+    rt.print(n)
 }
 
 // A row, or a count that fills a word.
-pub fn put_word(n: u64) {
-    io::print_decimal(STDOUT_FILENO, n);
+pub fn put_word(rt: &impl Print, n: u64) -> io::Result<()> {
+    rt.print(n)
 }
 
 // Document 01's number of a refusal.
-pub fn put_refusal(why: Refusal) {
-    put_number(refusals::number(why));
+pub fn put_refusal(rt: &impl Print, why: Refusal) -> io::Result<()> {
+    put_number(rt, refusals::number(why))
 }
 
 // The same, and the row at fault.
-pub fn put_refused_row(why: Refusal, row: usize) {
-    put_refusal(why);
-    put(b" row ");
-    put_number(row);
+pub fn put_refused_row(rt: &impl Print, why: Refusal, row: usize) -> io::Result<()> {
+    put_refusal(rt, why)?;
+    put(rt, b" row ")?;
+    put_number(rt, row)
 }
 
-pub fn put_rows(rows: &[u64]) {
+pub fn put_rows(rt: &impl Print, rows: &[u64]) -> io::Result<()> {
     let mut i: usize = 0;
     while i < rows.len() {
-        put(b" ");
-        put_word(rows[i]);
+        put(rt, b" ")?;
+        put_word(rt, rows[i])?;
         i += 1;
     }
+    Ok(())
 }
 
 // Whether the lent rows from a place on are still the 7 that they were.
-pub fn put_kept_rows(rows: &[u64], from: usize) {
+pub fn put_kept_rows(rt: &impl Print, rows: &[u64], from: usize) -> io::Result<()> {
     let mut i = from;
     while i < rows.len() {
         if rows[i] != 7 {
-            put(b"lost\n");
-            return;
+            return put(rt, b"lost\n");
         }
         i += 1;
     }
-    put(b"kept\n");
+    put(rt, b"kept\n")
 }
 
 // Whether the lent bytes from a place on are still the dots that they were.
-pub fn put_kept_bytes(out: &[u8], from: usize) {
+pub fn put_kept_bytes(rt: &impl Print, out: &[u8], from: usize) -> io::Result<()> {
     let mut i = from;
     while i < out.len() {
         if out[i] != b'.' {
-            put(b"lost\n");
-            return;
+            return put(rt, b"lost\n");
         }
         i += 1;
     }
-    put(b"kept\n");
+    put(rt, b"kept\n")
+}
+
+// Reads standard input until the lent bytes are full or the input ends, and answers how many bytes came.
+pub fn read_full(rt: &impl Input, text: &mut [u8]) -> io::Result<usize>
+    ensures { IfOk result (λ len. len ≤ length text.new) }
+{
+    let mut reader = rt.reader();
+    let mut done: usize = 0;
+    while done < text.len() {
+        let n = reader.read(&mut text[done..])?;
+        if n == 0 {
+            break;
+        }
+        done += n;
+    }
+    Ok(done)
 }

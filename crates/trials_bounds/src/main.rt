@@ -5,82 +5,83 @@
 
 use bounds::Bound;
 use refusals::Refusal;
+use std::io;
 
-fn refused(why: Refusal, row: usize) {
-    trials::put(b" refused ");
-    trials::put_refused_row(why, row);
+fn refused(rt: &impl Print, why: Refusal, row: usize) -> io::Result<()> {
+    trials::put(rt, b" refused ")?;
+    trials::put_refused_row(rt, why, row)
 }
 
-fn tell(b: Bound) {
+fn tell(rt: &impl Print, b: Bound) -> io::Result<()> {
     match b {
         Bound::At(value, _members) => {
-            trials::put(b" ");
-            trials::put_number(value);
+            trials::put(rt, b" ")?;
+            trials::put_number(rt, value)
         }
-        Bound::Many => refused(Refusal::Many, 0),
-        Bound::Stray(row) => refused(Refusal::Stray, row),
-        Bound::Itself(row) => refused(Refusal::Itself, row),
-        Bound::OneSided(row) => refused(Refusal::OneSided, row),
+        Bound::Many => refused(rt, Refusal::Many, 0),
+        Bound::Stray(row) => refused(rt, Refusal::Stray, row),
+        Bound::Itself(row) => refused(rt, Refusal::Itself, row),
+        Bound::OneSided(row) => refused(rt, Refusal::OneSided, row),
     }
 }
 
-fn show(name: &[u8], rows: &[u64]) {
-    trials::put(name);
-    tell(bounds::clique_bound(rows));
-    tell(bounds::mycielskian_bound(rows));
-    trials::put(b"\n");
+fn show(rt: &impl Print, name: &[u8], rows: &[u64]) -> io::Result<()> {
+    trials::put(rt, name)?;
+    tell(rt, bounds::clique_bound(rows))?;
+    tell(rt, bounds::mycielskian_bound(rows))?;
+    trials::put(rt, b"\n")
 }
 
 // The starred lists of document 01's table.
-fn starred() {
+fn starred(rt: &impl Print) -> io::Result<()> {
     let none = [0u64; 0];
-    show(b"n = 0:", &none);
-    show(b"n = 1:", &[0]);
-    show(b"n = 2, none:", &[0, 0]);
-    show(b"n = 2, 0-1:", &[2, 1]);
-    show(b"n = 3, none:", &[0, 0, 0]);
-    show(b"0-1, 1-2:", &[2, 5, 2]);
-    show(b"0-1, 1-2, 2-3, 0-3:", &[10, 5, 10, 5]);
-    show(b"0-1, 1-2, 2-3, 3-4, 0-4:", &[18, 5, 10, 20, 9]);
+    show(rt, b"n = 0:", &none)?;
+    show(rt, b"n = 1:", &[0])?;
+    show(rt, b"n = 2, none:", &[0, 0])?;
+    show(rt, b"n = 2, 0-1:", &[2, 1])?;
+    show(rt, b"n = 3, none:", &[0, 0, 0])?;
+    show(rt, b"0-1, 1-2:", &[2, 5, 2])?;
+    show(rt, b"0-1, 1-2, 2-3, 0-3:", &[10, 5, 10, 5])?;
+    show(rt, b"0-1, 1-2, 2-3, 3-4, 0-4:", &[18, 5, 10, 20, 9])
 }
 
 // Its refusals.
-fn refusals_of_rows() {
+fn refusals_of_rows(rt: &impl Print) -> io::Result<()> {
     let many = [0u64; 65];
-    show(b"65 rows:", &many);
-    show(b"2:", &[2]);
-    show(b"1:", &[1]);
-    show(b"2, 0:", &[2, 0]);
+    show(rt, b"65 rows:", &many)?;
+    show(rt, b"2:", &[2])?;
+    show(rt, b"1:", &[1])?;
+    show(rt, b"2, 0:", &[2, 0])
 }
 
 // The Mycielskian of the five-cycle: no triangle, and four sittings.
-fn myciel3() {
+fn myciel3(rt: &impl Print) -> io::Result<()> {
     let rows = [594, 165, 330, 660, 297, 1042, 1029, 1034, 1044, 1033, 992];
-    show(b"myciel3:", &rows);
+    show(rt, b"myciel3:", &rows)
 }
 
 // The Mycielskian of that: no triangle, and five sittings.
-fn myciel4() {
+fn myciel4(rt: &impl Print) -> io::Result<()> {
     let rows = [
         1217106, 338085, 676170, 1352340, 608553, 2135058, 2108421, 2118666, 2139156, 2116617,
         2032608, 4194898, 4194469, 4194634, 4194964, 4194601, 4195346, 4195333, 4195338, 4195348,
         4195337, 4195296, 4192256,
     ];
-    show(b"myciel4:", &rows);
+    show(rt, b"myciel4:", &rows)
 }
 
 // The squares of a board of five by five, which clash where a queen goes from one to the other.
-fn queen5() {
+fn queen5(rt: &impl Print) -> io::Result<()> {
     let rows = [
         18125950, 2697469, 4347355, 8694679, 18436879, 9605059, 19210151, 4897646, 9794300,
         19554808, 5372005, 10745066, 22506965, 11427722, 21774100, 4132009, 8297810, 15579812,
         30142793, 25682578, 31561009, 30648898, 28791940, 25045288, 16536145,
     ];
-    show(b"queen5_5:", &rows);
+    show(rt, b"queen5_5:", &rows)
 }
 
 // And of six by six.
-fn queen6() {
+fn queen6(rt: &impl Print) -> io::Result<()> {
     let rows = [
         35721072894,
         2722669053,
@@ -119,11 +120,11 @@ fn queen6() {
         51410707536,
         34101938337,
     ];
-    show(b"queen6_6:", &rows);
+    show(rt, b"queen6_6:", &rows)
 }
 
 // Every two of 64 clash.
-fn complete() {
+fn complete(rt: &impl Print) -> io::Result<()> {
     let rows = [
         18446744073709551614,
         18446744073709551613,
@@ -190,17 +191,17 @@ fn complete() {
         13835058055282163711,
         9223372036854775807,
     ];
-    show(b"n = 64, all edges:", &rows);
+    show(rt, b"n = 64, all edges:", &rows)
 }
 
-fn main() {
-    starred();
-    refusals_of_rows();
-    myciel3();
-    myciel4();
-    queen5();
-    queen6();
+fn main(rt: HostRuntime) -> io::Result<()> {
+    starred(&rt)?;
+    refusals_of_rows(&rt)?;
+    myciel3(&rt)?;
+    myciel4(&rt)?;
+    queen5(&rt)?;
+    queen6(&rt)?;
     let none = [0u64; 64];
-    show(b"n = 64, none:", &none);
-    complete();
+    show(&rt, b"n = 64, none:", &none)?;
+    complete(&rt)
 }

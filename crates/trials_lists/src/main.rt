@@ -3,13 +3,13 @@
 // stdout, which tests/awkward_texts.py makes from the papers alone.
 #![tactic(auto)]
 
-ghost use Rattle.std.specs.Prelude.{◌≡◌, ◌≤◌, length};
+ghost use Rattle.std.specs.Prelude.{◌≡◌, ◌≤◌, IfOk, length};
 ghost use Rattle.trials_lists.specs.Case.{Within};
 
-use libc::STDIN_FILENO;
 use lines::{Pair, Reader};
 use lists::{Reading, Written};
 use refusals::Refusal;
+use std::io;
 
 // The next text: how many rows are lent, and where it starts and ends.
 #[derive(Drop)]
@@ -38,126 +38,127 @@ fn room_for_texts() -> [u8; 300000]
     [0; 300000]
 }
 
-fn put_refused(why: Refusal, row: usize, out: &[u8]) {
-    trials::put(b"written ");
-    trials::put_refused_row(why, row);
-    trials::put(b" ");
-    trials::put_kept_bytes(out, 0);
+fn put_refused(rt: &impl Print, why: Refusal, row: usize, out: &[u8]) -> io::Result<()> {
+    trials::put(rt, b"written ")?;
+    trials::put_refused_row(rt, why, row)?;
+    trials::put(rt, b" ")?;
+    trials::put_kept_bytes(rt, out, 0)
 }
 
 // The text's length, and where it is asked for the text and what became of the bytes after it.
-fn put_text(out: &[u8], len: usize, show: bool)
+fn put_text(rt: &impl Print, out: &[u8], len: usize, show: bool) -> io::Result<()>
     requires { len ≤ length out.now }
 {
-    trials::put(b"written 0 length ");
-    trials::put_number(len);
-    trials::put(b"\n");
+    trials::put(rt, b"written 0 length ")?;
+    trials::put_number(rt, len)?;
+    trials::put(rt, b"\n")?;
     if show {
-        trials::put(&out[..len]);
-        trials::put(b"rest ");
-        trials::put_kept_bytes(out, len);
+        trials::put(rt, &out[..len])?;
+        trials::put(rt, b"rest ")?;
+        trials::put_kept_bytes(rt, out, len)?;
     }
+    Ok(())
 }
 
 // Writes a list to the lent bytes, all dots, and answers the text's length, or 0.
-fn write(rows: &[u64], out: &mut [u8], show: bool) -> usize
-    ensures { result ≤ length out.old }
+fn write(rt: &impl Print, rows: &[u64], out: &mut [u8], show: bool) -> io::Result<usize>
+    ensures { IfOk result (λ len. len ≤ length out.old) }
 {
     match lists::write_list(rows, out) {
         Written::Length(len) => {
-            put_text(out, len, show);
-            return len;
+            put_text(rt, out, len, show)?;
+            return Ok(len);
         }
-        Written::Many => put_refused(Refusal::Many, 0, out),
-        Written::Stray(row) => put_refused(Refusal::Stray, row, out),
-        Written::Itself(row) => put_refused(Refusal::Itself, row, out),
-        Written::OneSided(row) => put_refused(Refusal::OneSided, row, out),
-        Written::Full => put_refused(Refusal::Full, 0, out),
+        Written::Many => put_refused(rt, Refusal::Many, 0, out)?,
+        Written::Stray(row) => put_refused(rt, Refusal::Stray, row, out)?,
+        Written::Itself(row) => put_refused(rt, Refusal::Itself, row, out)?,
+        Written::OneSided(row) => put_refused(rt, Refusal::OneSided, row, out)?,
+        Written::Full => put_refused(rt, Refusal::Full, 0, out)?,
     }
-    0
+    Ok(0)
 }
 
 // A list is written thrice: with ample room, with just enough, and with one byte less.
-fn written(rows: &[u64]) {
+fn written(rt: &impl Print, rows: &[u64]) -> io::Result<()> {
     let mut ample = dots();
-    let len = write(rows, &mut ample, true);
+    let len = write(rt, rows, &mut ample, true)?;
     if 0 < len {
         let mut enough = dots();
-        write(rows, &mut enough[..len], false);
+        write(rt, rows, &mut enough[..len], false)?;
         let less = len - 1;
         let mut short = dots();
-        write(rows, &mut short[..less], false);
+        write(rt, rows, &mut short[..less], false)?;
     }
+    Ok(())
 }
 
 // The list's rows and what became of the rows after them; and the list, written.
-fn put_list(lent: &[u64], n: usize)
+fn put_list(rt: &impl Print, lent: &[u64], n: usize) -> io::Result<()>
     requires { n ≤ length lent.now }
 {
-    trials::put(b"0 entries ");
-    trials::put_number(n);
-    trials::put(b" rows");
-    trials::put_rows(&lent[..n]);
-    trials::put(b" rest ");
-    trials::put_kept_rows(lent, n);
-    written(&lent[..n]);
+    trials::put(rt, b"0 entries ")?;
+    trials::put_number(rt, n)?;
+    trials::put(rt, b" rows")?;
+    trials::put_rows(rt, &lent[..n])?;
+    trials::put(rt, b" rest ")?;
+    trials::put_kept_rows(rt, lent, n)?;
+    written(rt, &lent[..n])
 }
 
-fn put_line(number: usize, start: usize, line: &[u8]) {
-    trials::put(b"line ");
-    trials::put_number(number);
-    trials::put(b" at ");
-    trials::put_number(start);
-    trials::put(b" length ");
-    trials::put_number(line.len());
-    trials::put(b"\n");
+fn put_line(rt: &impl Print, number: usize, start: usize, line: &[u8]) -> io::Result<()> {
+    trials::put(rt, b"line ")?;
+    trials::put_number(rt, number)?;
+    trials::put(rt, b" at ")?;
+    trials::put_number(rt, start)?;
+    trials::put(rt, b" length ")?;
+    trials::put_number(rt, line.len())?;
+    trials::put(rt, b"\n")
 }
 
 // Each line of a text with its number, where it starts and how long it is, by a reader.
-fn put_lines(text: &[u8]) {
+fn put_lines(rt: &impl Print, text: &[u8]) -> io::Result<()> {
     let mut r = Reader::new(text);
     while !r.at_end() {
-        put_line(r.line_number(), r.position(), r.here());
+        put_line(rt, r.line_number(), r.position(), r.here())?;
         r = r.next();
     }
+    Ok(())
 }
 
 // Reads one text into the lent rows, all 7; of a text that is refused each line is shown where it lies.
-fn trial(text: &[u8], lent: &mut [u64], plain: bool) {
+fn trial(rt: &impl Print, text: &[u8], lent: &mut [u64], plain: bool) -> io::Result<()> {
     match lists::read_list(text, lent, plain) {
         Reading::Refused(why, line, column) => {
-            trials::put_refusal(lists::refusal_of(why));
-            trials::put(b" line ");
-            trials::put_number(line);
-            trials::put(b" column ");
-            trials::put_number(column);
-            trials::put(b" ");
-            trials::put_kept_rows(lent, 0);
-            put_lines(text);
+            trials::put_refusal(rt, lists::refusal_of(why))?;
+            trials::put(rt, b" line ")?;
+            trials::put_number(rt, line)?;
+            trials::put(rt, b" column ")?;
+            trials::put_number(rt, column)?;
+            trials::put(rt, b" ")?;
+            trials::put_kept_rows(rt, lent, 0)?;
+            put_lines(rt, text)
         }
-        Reading::Read(n) => {
-            put_list(lent, n);
-        }
+        Reading::Read(n) => put_list(rt, lent, n),
     }
 }
 
-fn one_reading(text: &[u8], room: usize, plain: bool)
+fn one_reading(rt: &impl Print, text: &[u8], room: usize, plain: bool) -> io::Result<()>
     requires { room ≤ 70 }
 {
     let mut lent = sevens();
-    trial(text, &mut lent[..room], plain);
+    trial(rt, text, &mut lent[..room], plain)
 }
 
 // Text k by both readings: the plain one, and the one that allows repeats.
-fn both_readings(k: u64, text: &[u8], room: usize)
+fn both_readings(rt: &impl Print, k: u64, text: &[u8], room: usize) -> io::Result<()>
     requires { room ≤ 70 }
 {
-    trials::put_word(k);
-    trials::put(b" read ");
-    one_reading(text, room, true);
-    trials::put_word(k);
-    trials::put(b" repeats ");
-    one_reading(text, room, false);
+    trials::put_word(rt, k)?;
+    trials::put(rt, b" read ")?;
+    one_reading(rt, text, room, true)?;
+    trials::put_word(rt, k)?;
+    trials::put(rt, b" repeats ")?;
+    one_reading(rt, text, room, false)
 }
 
 // The text after the line "R B" that starts at `at`.
@@ -184,40 +185,40 @@ fn find(file: &[u8], at: usize) -> Next
 }
 
 // Each text of the file, with its number from 1.
-fn texts(file: &[u8]) {
+fn texts(rt: &impl Print, file: &[u8]) -> io::Result<()> {
     let mut at: usize = 0;
     let mut k: u64 = 1;
     while at < file.len() {
         match find(file, at) {
             Next::Over => {
-                trials::put(b"over\n");
-                return;
+                return trials::put(rt, b"over\n");
             }
             Next::Text(room, start, end) => {
-                both_readings(k, &file[start..end], room);
+                both_readings(rt, k, &file[start..end], room)?;
                 at = end;
                 k = std::num::wrapping_add_u64(k, 1);
             }
         }
     }
+    Ok(())
 }
 
-fn main() {
+fn main(rt: HostRuntime) -> io::Result<()> {
     let mut file = room_for_texts();
-    let len = io::read_full(STDIN_FILENO, &mut file);
-    texts(&file[..len]);
+    let len = trials::read_full(&rt, &mut file)?;
+    texts(&rt, &file[..len])?;
     let none = [0u64; 0];
-    written(&none);
-    written(&[0]);
-    written(&[2, 1]);
-    written(&[18, 5, 10, 20, 9]);
-    written(&[2]);
-    written(&[1]);
-    written(&[2, 0]);
-    written(&[0, 1]);
+    written(&rt, &none)?;
+    written(&rt, &[0])?;
+    written(&rt, &[2, 1])?;
+    written(&rt, &[18, 5, 10, 20, 9])?;
+    written(&rt, &[2])?;
+    written(&rt, &[1])?;
+    written(&rt, &[2, 0])?;
+    written(&rt, &[0, 1])?;
     let many = [0u64; 65];
-    written(&many);
-    written(&[4, 0, 1]);
-    written(&[6, 5, 3]);
-    written(&[0, 0, 4]);
+    written(&rt, &many)?;
+    written(&rt, &[4, 0, 1])?;
+    written(&rt, &[6, 5, 3])?;
+    written(&rt, &[0, 0, 4])
 }

@@ -8,8 +8,8 @@
 ghost use Rattle.std.specs.Prelude.{◌≡◌, ◌≤◌, length};
 ghost use Rattle.trials_sheets.specs.Case.{Within};
 
-use libc::STDIN_FILENO;
 use lines::{Alone, Pair};
+use std::io;
 
 // The next pair: how many colour bytes are lent, and where the list starts, the sheet starts, and the pair ends.
 #[derive(Drop)]
@@ -43,17 +43,18 @@ fn room_for_pairs() -> [u8; 400000]
 }
 
 // Each colour byte; a dash for one that is as it was.
-fn put_colours(colours: &[u8]) {
+fn put_colours(rt: &impl Print, colours: &[u8]) -> io::Result<()> {
     let mut i: usize = 0;
     while i < colours.len() {
-        trials::put(b" ");
+        trials::put(rt, b" ")?;
         if colours[i] == 255 {
-            trials::put(b"-");
+            trials::put(rt, b"-")?;
         } else {
-            trials::put_number(wide(colours[i]));
+            trials::put_number(rt, wide(colours[i]))?;
         }
         i += 1;
     }
+    Ok(())
 }
 
 // How many colour bytes were set.
@@ -70,99 +71,119 @@ fn count_set(colours: &[u8]) -> usize
     i
 }
 
-fn put_written(m: sheet_texts::Numbers) {
-    trials::put(b"written ");
-    trials::put_number(m.number);
-    trials::put(b" index ");
-    trials::put_number(m.index);
-    trials::put(b" length ");
-    trials::put_number(m.length);
-    trials::put(b" rest ");
+fn put_written(rt: &impl Print, m: sheet_texts::Numbers) -> io::Result<()> {
+    trials::put(rt, b"written ")?;
+    trials::put_number(rt, m.number)?;
+    trials::put(rt, b" index ")?;
+    trials::put_number(rt, m.index)?;
+    trials::put(rt, b" length ")?;
+    trials::put_number(rt, m.length)?;
+    trials::put(rt, b" rest ")
 }
 
 // Writes the sheet of some colour bytes to lent bytes, all dots, and answers its length, or 0.
-fn write(colours: &[u8], out: &mut [u8], show: bool) -> usize {
+fn write(rt: &impl Print, colours: &[u8], out: &mut [u8], show: bool) -> io::Result<usize> {
     let answer = sheet_texts::write_sheet(colours, out);
     let m = sheet_texts::numbers_of(answer);
-    put_written(m);
+    put_written(rt, m)?;
     let len = m.length;
-    trials::put_kept_bytes(out, len);
+    trials::put_kept_bytes(rt, out, len)?;
     if show {
         if len <= out.len() {
-            trials::put(&out[..len]);
+            trials::put(rt, &out[..len])?;
         }
     }
-    len
+    Ok(len)
 }
 
 // A sheet is written thrice: with ample room, with just enough, and with one byte less.
-fn written(colours: &[u8]) {
+fn written(rt: &impl Print, colours: &[u8]) -> io::Result<()> {
     let mut ample = dots();
-    let len = write(colours, &mut ample, true);
+    let len = write(rt, colours, &mut ample, true)?;
     if 0 < len {
         if len <= 768 {
             let mut enough = dots();
-            write(colours, &mut enough[..len], false);
+            write(rt, colours, &mut enough[..len], false)?;
             let less = len - 1;
             let mut short = dots();
-            write(colours, &mut short[..less], false);
+            write(rt, colours, &mut short[..less], false)?;
         }
     }
+    Ok(())
 }
 
-fn put_checked(m: sheets::Numbers) {
-    trials::put(b"number ");
-    trials::put_number(m.number);
-    trials::put(b" line ");
-    trials::put_number(m.line);
-    trials::put(b" column ");
-    trials::put_number(m.column);
-    trials::put(b" text ");
-    trials::put_number(m.text);
-    trials::put(b" groups ");
-    trials::put_number(m.groups);
-    trials::put(b" colours");
+fn put_checked(rt: &impl Print, m: sheets::Numbers) -> io::Result<()> {
+    trials::put(rt, b"number ")?;
+    trials::put_number(rt, m.number)?;
+    trials::put(rt, b" line ")?;
+    trials::put_number(rt, m.line)?;
+    trials::put(rt, b" column ")?;
+    trials::put_number(rt, m.column)?;
+    trials::put(rt, b" text ")?;
+    trials::put_number(rt, m.text)?;
+    trials::put(rt, b" groups ")?;
+    trials::put_number(rt, m.groups)?;
+    trials::put(rt, b" colours")
 }
 
-fn put_shown(part: &[u8]) {
-    trials::put(b" shown ");
-    trials::put_number(part.len());
-    trials::put(b" [");
-    trials::put(part);
-    trials::put(b"]\n");
+fn put_shown(rt: &impl Print, part: &[u8]) -> io::Result<()> {
+    trials::put(rt, b" shown ")?;
+    trials::put_number(rt, part.len())?;
+    trials::put(rt, b" [")?;
+    trials::put(rt, part)?;
+    trials::put(rt, b"]\n")
 }
 
 // Checks one pair with the lent colour bytes, all 255; what is accepted is written again.
-fn trial<'a>(list: &'a [u8], sheet: &'a [u8], colours: &mut [u8], plain: bool) {
+fn trial<'a>(
+    rt: &impl Print,
+    list: &'a [u8],
+    sheet: &'a [u8],
+    colours: &mut [u8],
+    plain: bool,
+) -> io::Result<()> {
     let room = colours.len();
     let answer = sheets::check_sheet(list, sheet, colours, plain);
     let m = sheets::numbers_of(answer);
-    put_checked(m);
-    put_colours(colours);
-    put_shown(sheets::fault_line(list, sheet, room, plain));
+    put_checked(rt, m)?;
+    put_colours(rt, colours)?;
+    put_shown(rt, sheets::fault_line(list, sheet, room, plain))?;
     if m.number == 0 {
         let n = count_set(colours);
-        written(&colours[..n]);
+        written(rt, &colours[..n])?;
     }
+    Ok(())
 }
 
-fn one_reading<'a>(list: &'a [u8], sheet: &'a [u8], room: usize, plain: bool)
+fn one_reading<'a>(
+    rt: &impl Print,
+    list: &'a [u8],
+    sheet: &'a [u8],
+    room: usize,
+    plain: bool,
+) -> io::Result<()>
     requires { room ≤ 70 }
 {
     let mut lent = unset();
-    trial(list, sheet, &mut lent[..room], plain);
+    trial(rt, list, sheet, &mut lent[..room], plain)
 }
 
 // Pair k by both readings of the list: the plain one, and the one that allows repeats.
-fn both_readings<'a>(k: u64, list: &'a [u8], sheet: &'a [u8], room: usize)
+fn both_readings<'a>(
+    rt: &impl Print,
+    k: u64,
+    list: &'a [u8],
+    sheet: &'a [u8],
+    room: usize,
+) -> io::Result<()>
     requires { room ≤ 70 }
 {
-    trials::put_word(k);
-    trials::put(b" ");
-    one_reading(list, sheet, room, true);
-    trials::put_word(k);
-    trials::put(b" repeats ");
-    one_reading(list, sheet, room, false);
+    trials::put_word(rt, k)?;
+    trials::put(rt, b" ")?;
+    one_reading(rt, list, sheet, room, true)?;
+    trials::put_word(rt, k)?;
+    trials::put(rt, b" repeats ")?;
+    one_reading(rt, list, sheet, room, false)
 }
 
 // The pair after the line with its colour bytes, which starts at `at`: so many bytes of a list, then so many of a sheet.
@@ -208,41 +229,41 @@ fn find(file: &[u8], at: usize) -> Next
 }
 
 // Each pair of the file, with its number from 1.
-fn pairs(file: &[u8]) {
+fn pairs(rt: &impl Print, file: &[u8]) -> io::Result<()> {
     let mut at: usize = 0;
     let mut k: u64 = 1;
     while at < file.len() {
         match find(file, at) {
             Next::Over => {
-                trials::put(b"over\n");
-                return;
+                return trials::put(rt, b"over\n");
             }
             Next::Both(room, start, middle, end) => {
-                both_readings(k, &file[start..middle], &file[middle..end], room);
+                both_readings(rt, k, &file[start..middle], &file[middle..end], room)?;
                 at = end;
                 k = std::num::wrapping_add_u64(k, 1);
             }
         }
     }
+    Ok(())
 }
 
-fn main() {
+fn main(rt: HostRuntime) -> io::Result<()> {
     let mut file = room_for_pairs();
-    let len = io::read_full(STDIN_FILENO, &mut file);
-    pairs(&file[..len]);
+    let len = trials::read_full(&rt, &mut file)?;
+    pairs(&rt, &file[..len])?;
     let none = [0u8; 0];
-    written(&none);
-    written(&[0]);
-    written(&[1]);
-    written(&[0, 0, 0]);
-    written(&[0, 1, 0, 1, 2]);
-    written(&[0, 2, 1]);
-    written(&[0, 1, 3, 2]);
-    written(&[0, 0, 255]);
+    written(&rt, &none)?;
+    written(&rt, &[0])?;
+    written(&rt, &[1])?;
+    written(&rt, &[0, 0, 0])?;
+    written(&rt, &[0, 1, 0, 1, 2])?;
+    written(&rt, &[0, 2, 1])?;
+    written(&rt, &[0, 1, 3, 2])?;
+    written(&rt, &[0, 0, 255])?;
     let most = [0u8; 64];
-    written(&most);
+    written(&rt, &most)?;
     let many = [0u8; 65];
-    written(&many);
+    written(&rt, &many)?;
     let wrong = [1u8; 65];
-    written(&wrong);
+    written(&rt, &wrong)
 }

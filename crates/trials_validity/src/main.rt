@@ -4,57 +4,58 @@
 
 use clashes::Verdict;
 use refusals::Refusal;
+use std::io;
 
-fn say(why: Refusal, row: usize) {
-    trials::put_refused_row(why, row);
-    trials::put(b"\n");
+fn say(rt: &impl Print, why: Refusal, row: usize) -> io::Result<()> {
+    trials::put_refused_row(rt, why, row)?;
+    trials::put(rt, b"\n")
 }
 
-fn show(rows: &[u64]) {
+fn show(rt: &impl Print, rows: &[u64]) -> io::Result<()> {
     match clashes::validity(rows) {
-        Verdict::Valid => trials::put(b"0 row 0\n"),
-        Verdict::Many => say(Refusal::Many, 0),
-        Verdict::Stray(row) => say(Refusal::Stray, row),
-        Verdict::Itself(row) => say(Refusal::Itself, row),
-        Verdict::OneSided(row) => say(Refusal::OneSided, row),
+        Verdict::Valid => trials::put(rt, b"0 row 0\n"),
+        Verdict::Many => say(rt, Refusal::Many, 0),
+        Verdict::Stray(row) => say(rt, Refusal::Stray, row),
+        Verdict::Itself(row) => say(rt, Refusal::Itself, row),
+        Verdict::OneSided(row) => say(rt, Refusal::OneSided, row),
     }
 }
 
 // At the ends of the range: no row, 64 rows, 65 rows, and the highest bit of a word.
-fn at_the_ends() {
+fn at_the_ends(rt: &impl Print) -> io::Result<()> {
     let none = [0u64; 0];
-    show(&none);
+    show(rt, &none)?;
     let sixty_four = [0u64; 64];
-    show(&sixty_four);
+    show(rt, &sixty_four)?;
     let sixty_five = [0u64; 65];
-    show(&sixty_five);
+    show(rt, &sixty_five)?;
     let mut last = [0u64; 64];
     last[63] = 9223372036854775808;
-    show(&last);
+    show(rt, &last)?;
     let mut both = [0u64; 64];
     both[0] = 9223372036854775808;
     both[63] = 1;
-    show(&both);
+    show(rt, &both)?;
     let mut one = [0u64; 64];
     one[0] = 9223372036854775808;
-    show(&one);
+    show(rt, &one)
 }
 
 // Each refusal, and the order in which they are given.
-fn in_order() {
-    show(&[2]);
-    show(&[1]);
-    show(&[2, 0]);
-    show(&[0, 1]);
-    show(&[2, 1]);
-    show(&[0, 0, 8]);
-    show(&[2, 2, 8]);
-    show(&[2, 2, 1]);
-    show(&[4, 0, 2]);
-    show(&[18, 5, 10, 20, 9]);
+fn in_order(rt: &impl Print) -> io::Result<()> {
+    show(rt, &[2])?;
+    show(rt, &[1])?;
+    show(rt, &[2, 0])?;
+    show(rt, &[0, 1])?;
+    show(rt, &[2, 1])?;
+    show(rt, &[0, 0, 8])?;
+    show(rt, &[2, 2, 8])?;
+    show(rt, &[2, 2, 1])?;
+    show(rt, &[4, 0, 2])?;
+    show(rt, &[18, 5, 10, 20, 9])
 }
 
-fn main() {
-    at_the_ends();
-    in_order();
+fn main(rt: HostRuntime) -> io::Result<()> {
+    at_the_ends(&rt)?;
+    in_order(&rt)
 }

@@ -3,6 +3,7 @@
 #![tactic(auto)]
 
 use refusals::Refusal;
+use std::io;
 use walk::Answer;
 
 // Cycles.
@@ -283,92 +284,92 @@ const ALL: [u64; 64] = [
     9223372036854775807,
 ];
 
-fn say(word: &[u8], number: u64) {
-    trials::put(word);
-    trials::put_word(number);
+fn say(rt: &impl Print, word: &[u8], number: u64) -> io::Result<()> {
+    trials::put(rt, word)?;
+    trials::put_word(rt, number)
 }
 
-fn refused(why: Refusal, row: usize) {
-    trials::put(b": refused ");
-    trials::put_refused_row(why, row);
+fn refused(rt: &impl Print, why: Refusal, row: usize) -> io::Result<()> {
+    trials::put(rt, b": refused ")?;
+    trials::put_refused_row(rt, why, row)
 }
 
-fn tell(a: Answer) {
+fn tell(rt: &impl Print, a: Answer) -> io::Result<()> {
     match a {
         Answer::Accepted(k, nodes, leaves, _clique) => {
-            say(b": k ", k as u64);
-            say(b" nodes ", nodes);
-            say(b" leaves ", leaves);
+            say(rt, b": k ", k as u64)?;
+            say(rt, b" nodes ", nodes)?;
+            say(rt, b" leaves ", leaves)?;
         }
-        Answer::Many => refused(Refusal::Many, 0),
-        Answer::Stray(row) => refused(Refusal::Stray, row),
-        Answer::Itself(row) => refused(Refusal::Itself, row),
-        Answer::OneSided(row) => refused(Refusal::OneSided, row),
-        Answer::Short => refused(Refusal::Short, 0),
+        Answer::Many => refused(rt, Refusal::Many, 0)?,
+        Answer::Stray(row) => refused(rt, Refusal::Stray, row)?,
+        Answer::Itself(row) => refused(rt, Refusal::Itself, row)?,
+        Answer::OneSided(row) => refused(rt, Refusal::OneSided, row)?,
+        Answer::Short => refused(rt, Refusal::Short, 0)?,
         Answer::Budget(nodes) => {
-            trials::put(b": refused ");
-            trials::put_refusal(Refusal::Budget);
-            say(b" nodes ", nodes);
+            trials::put(rt, b": refused ")?;
+            trials::put_refusal(rt, Refusal::Budget)?;
+            say(rt, b" nodes ", nodes)?;
         }
     }
-    trials::put(b"\n");
+    trials::put(rt, b"\n")
 }
 
 // The bounded walk.
-fn show(name: &[u8], rows: &[u64], budget: u64) {
+fn show(rt: &impl Print, name: &[u8], rows: &[u64], budget: u64) -> io::Result<()> {
     let mut colours = [0u8; 64];
-    trials::put(name);
-    tell(walk::fewest(rows, &mut colours, budget));
+    trials::put(rt, name)?;
+    tell(rt, walk::fewest(rows, &mut colours, budget))
 }
 
 // And the plain one.
-fn both(name: &[u8], rows: &[u64]) {
-    show(name, rows, 1000000);
+fn both(rt: &impl Print, name: &[u8], rows: &[u64]) -> io::Result<()> {
+    show(rt, name, rows, 1000000)?;
     let mut colours = [0u8; 64];
-    trials::put(name);
-    trials::put(b", plain");
-    tell(walk::plain(rows, &mut colours, 1000000));
+    trials::put(rt, name)?;
+    trials::put(rt, b", plain")?;
+    tell(rt, walk::plain(rows, &mut colours, 1000000))
 }
 
-fn cycles() {
-    both(b"five-cycle", &FIVE_CYCLE);
-    show(b"five-cycle, budget 4", &FIVE_CYCLE, 4);
-    show(b"five-cycle, budget 5", &FIVE_CYCLE, 5);
-    both(b"seven-cycle", &SEVEN_CYCLE);
-    both(b"octahedron", &OCTAHEDRON);
-    both(b"cube", &CUBE);
+fn cycles(rt: &impl Print) -> io::Result<()> {
+    both(rt, b"five-cycle", &FIVE_CYCLE)?;
+    show(rt, b"five-cycle, budget 4", &FIVE_CYCLE, 4)?;
+    show(rt, b"five-cycle, budget 5", &FIVE_CYCLE, 5)?;
+    both(rt, b"seven-cycle", &SEVEN_CYCLE)?;
+    both(rt, b"octahedron", &OCTAHEDRON)?;
+    both(rt, b"cube", &CUBE)
 }
 
-fn named() {
-    both(b"myciel3", &MYCIEL3);
-    show(b"myciel4", &MYCIEL4, 1000000);
-    show(b"queen4_4", &QUEEN4_4, 1000000);
-    show(b"queen5_5", &QUEEN5_5, 1000000);
-    both(b"petersen", &PETERSEN);
-    show(b"kneser 6 2", &KNESER_6_2, 1000000);
+fn named(rt: &impl Print) -> io::Result<()> {
+    both(rt, b"myciel3", &MYCIEL3)?;
+    show(rt, b"myciel4", &MYCIEL4, 1000000)?;
+    show(rt, b"queen4_4", &QUEEN4_4, 1000000)?;
+    show(rt, b"queen5_5", &QUEEN5_5, 1000000)?;
+    both(rt, b"petersen", &PETERSEN)?;
+    show(rt, b"kneser 6 2", &KNESER_6_2, 1000000)
 }
 
-fn paley() {
-    show(b"paley 13", &PALEY_13, 1000000);
-    show(b"paley 17", &PALEY_17, 1000000);
-    show(b"cube of 4", &CUBE_OF_4, 1000000);
+fn paley(rt: &impl Print) -> io::Result<()> {
+    show(rt, b"paley 13", &PALEY_13, 1000000)?;
+    show(rt, b"paley 17", &PALEY_17, 1000000)?;
+    show(rt, b"cube of 4", &CUBE_OF_4, 1000000)
 }
 
-fn random() {
-    both(b"random 10 50", &RANDOM_10_50);
-    show(b"random 20 50", &RANDOM_20_50, 1000000);
-    show(b"random 30 20", &RANDOM_30_20, 1000000);
-    show(b"random 32 80", &RANDOM_32_80, 1000000);
-    show(b"random 64 4", &RANDOM_64_4, 1000000);
-    show(b"random 64 97", &RANDOM_64_97, 1000000);
+fn random(rt: &impl Print) -> io::Result<()> {
+    both(rt, b"random 10 50", &RANDOM_10_50)?;
+    show(rt, b"random 20 50", &RANDOM_20_50, 1000000)?;
+    show(rt, b"random 30 20", &RANDOM_30_20, 1000000)?;
+    show(rt, b"random 32 80", &RANDOM_32_80, 1000000)?;
+    show(rt, b"random 64 4", &RANDOM_64_4, 1000000)?;
+    show(rt, b"random 64 97", &RANDOM_64_97, 1000000)
 }
 
-fn main() {
-    cycles();
-    named();
-    paley();
-    random();
+fn main(rt: HostRuntime) -> io::Result<()> {
+    cycles(&rt)?;
+    named(&rt)?;
+    paley(&rt)?;
+    random(&rt)?;
     let none = [0u64; 64];
-    show(b"n = 64, none", &none, 1000000);
-    show(b"n = 64, all edges", &ALL, 1000000);
+    show(&rt, b"n = 64, none", &none, 1000000)?;
+    show(&rt, b"n = 64, all edges", &ALL, 1000000)
 }

@@ -4,13 +4,13 @@
 // list all the while. What this writes is held to the file stdout; tests/wide_lists.py makes both files from the lists' constructions and document 01.
 #![tactic(auto)]
 
-ghost use Rattle.std.specs.Prelude.{◌≡◌, ℕ, ◌≤◌, ◌<◌, length};
+ghost use Rattle.std.specs.Prelude.{◌≡◌, ℕ, ◌≤◌, ◌<◌, IfOk, length};
 ghost use Rattle.clashes.specs.Matrix.{Valid, matrix};
 ghost use Rattle.wide.specs.Words.{rows_of};
 
 use graphs::Choice;
-use libc::STDIN_FILENO;
 use lines::Pair;
+use std::io;
 use wide::{Set, below, is_empty, lowest, mark, without};
 
 // The two numbers of a line, and where the next line starts: where this one does, if it has another shape or is not ended.
@@ -151,88 +151,88 @@ fn add_pairs(file: &[u8], at: usize, rows: &mut [u64], n: usize) -> usize
     at
 }
 
-fn put_members(s: Set) {
+fn put_members(rt: &impl Print, s: Set) -> io::Result<()> {
     let mut left = s;
     while !is_empty(left) {
         let v = lowest(left);
-        trials::put(b" ");
-        trials::put_number(v);
+        trials::put(rt, b" ")?;
+        trials::put_number(rt, v)?;
         left = without(left, v);
     }
+    Ok(())
 }
 
-fn put_choice(c: Choice) {
+fn put_choice(rt: &impl Print, c: Choice) -> io::Result<()> {
     match c {
-        Choice::Complete => trials::put(b", complete\n"),
+        Choice::Complete => trials::put(rt, b", complete\n"),
         Choice::Split(u, v) => {
-            trials::put(b", pair ");
-            trials::put_number(u);
-            trials::put(b" ");
-            trials::put_number(v);
-            trials::put(b"\n");
+            trials::put(rt, b", pair ")?;
+            trials::put_number(rt, u)?;
+            trials::put(rt, b" ")?;
+            trials::put_number(rt, v)?;
+            trials::put(rt, b"\n")
         }
     }
 }
 
 // What is found in a list of n entries.
-fn tell(rows: &[u64], n: usize)
+fn tell(rt: &impl Print, rows: &[u64], n: usize) -> io::Result<()>
     requires rows_len { length rows.now ≡ 1024 }
     requires n_bound { n ≤ 256 }
     requires valid { Valid n (matrix (rows_of 4 256 rows.now)) }
 {
     let live = below(n);
-    trials::put_number(n);
-    trials::put(b" entries, clique");
-    put_members(wide_cliques::clique_among(live, rows, 257));
+    trials::put_number(rt, n)?;
+    trials::put(rt, b" entries, clique")?;
+    put_members(rt, wide_cliques::clique_among(live, rows, 257))?;
     let b = wide_mycielski::bound_among(live, rows, 257);
-    trials::put(b", bound ");
-    trials::put_number(b);
+    trials::put(rt, b", bound ")?;
+    trials::put_number(rt, b)?;
     if bounds::reaches_wide(live, rows, b) {
-        trials::put(b" reached");
+        trials::put(rt, b" reached")?;
     }
     if bounds::reaches_wide(live, rows, b % 512 + 1) {
-        trials::put(b" and passed");
+        trials::put(rt, b" and passed")?;
     }
-    put_choice(wide_pairs::choose_among(live, rows));
+    put_choice(rt, wide_pairs::choose_among(live, rows))
 }
 
 // The list whose pairs start at `at`. Where the next list starts.
-fn one_list(file: &[u8], at: usize, n: usize, others: bool) -> usize
+fn one_list(rt: &impl Print, file: &[u8], at: usize, n: usize, others: bool) -> io::Result<usize>
     requires at_in_bounds { at ≤ length file.now }
     requires n_bound { n ≤ 256 }
-    ensures { (at ≤ result) × (result ≤ length file.now) }
+    ensures { IfOk result (λ next. (at ≤ next) × (next ≤ length file.now)) }
 {
     let mut rows = no_rows();
     let next = add_pairs(file, at, &mut rows, n);
     if others {
         let mut all = no_rows();
         add_others(&rows, &mut all, n);
-        tell(&all, n);
+        tell(rt, &all, n)?;
     } else {
-        tell(&rows, n);
+        tell(rt, &rows, n)?;
     }
-    next
+    Ok(next)
 }
 
 // Each list of the file.
-fn lists(file: &[u8]) {
+fn lists(rt: &impl Print, file: &[u8]) -> io::Result<()> {
     let mut at: usize = 0;
     while at < file.len() {
         let line = line_at(file, at);
         if line.next <= at {
-            trials::put(b"over\n");
-            return;
+            return trials::put(rt, b"over\n");
         }
         if 256 < line.u {
-            trials::put(b"over\n");
-            return;
+            return trials::put(rt, b"over\n");
         }
-        at = one_list(file, line.next, line.u, line.v == 1);
+        at = one_list(rt, file, line.next, line.u, line.v == 1)?;
     }
+    Ok(())
 }
 
-fn main() {
+fn main(rt: HostRuntime) -> io::Result<()> {
     let mut file = room_for_lists();
-    let len = io::read_full(STDIN_FILENO, &mut file);
-    lists(&file[..len]);
+    let len = trials::read_full(&rt, &mut file)?;
+    lists(&rt, &file[..len])
 }

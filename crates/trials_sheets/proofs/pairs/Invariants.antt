@@ -1,8 +1,9 @@
+-- `trials_sheets::pairs` is safe and ends: each pair starts after the place where its line was looked for. Assumes nothing.
 use Rattle.std.proofs.Common.{◌-◌, ◌≤◌, length}
 use Rattle.trials_sheets.proofs.pairs.Given as goal
 
 abbrev pub invariant-loop-at : goal.invariant-loop-at
-invariant-loop-at l = l.k ≤ length l.file
+invariant-loop-at g l = l.at ≤ length l.file
 
 abbrev pub decreases-loop-at : goal.decreases-loop-at
-decreases-loop-at l = length l.file - l.k
+decreases-loop-at g l = length l.file - l.at

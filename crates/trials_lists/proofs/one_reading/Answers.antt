@@ -1,7 +1,0 @@
--- `trials_lists::one_reading` is safe and ends: so many of the rows are lent. Assumes nothing.
-use Rattle.std.proofs.Common.{sym, arith, length-take-le}
-use Rattle.trials_lists.proofs.one_reading.Goals as goal
-
-pub slice_bounds-trial-end : goal.slice_bounds-trial-end
-slice_bounds-trial-end c =
-    sym (length-take-le c.args.room c.sevens-lent.result (omega (arith, c.sevens-lent.ensures)))
