@@ -8,7 +8,7 @@ use native.Mathlib.Omega.{arith}
 use borrow.Author.Tests.{lt-ltb, le-ltb, ltb-true, ltb-false}
 use lib.ListN.{length, drop, drop_of_length-le}
 use lib.Dec.{T, ltb}
-use denote.Ref.{MutBor}
+use denote.Ref.{Bor}
 use Rattle.lines.specs.Text.{lines_of, line_no_lem, line_count, line_end_lem, next_start_lem, place_of}
 use Rattle.lines.specs.Part.{LineOf}
 use Rattle.lines.specs.Reader.{in_text_lem, largest, next_number_lem, next_of, at_end_lem, after}
@@ -107,7 +107,7 @@ stays r e = ap (λ (a : ℕ). record { text = r.text; at = a; line = next_number
     number : next_number_lem s r.at r.line ≡ r.line
     number = rw (le-ltb r.at (length s) (omega (arith, e)))
 
-module _ (t : MutBor (List ℕ)) where
+module _ (t : Bor (List ℕ)) where
   -- how many lines the text has
   abbrev lines : ℕ
   lines = line_count (lines_of t.now)
@@ -117,23 +117,23 @@ module _ (t : MutBor (List ℕ)) where
   reader_at zero = (refl, refl)
   reader_at (suc k) =
       let (e, p) = reader_at k in
-      (e, ap (λ (x : MutBor (List ℕ)). next_start_lem x.now (after t k).at) e ∙ ap (next_start_lem t.now) p)
+      (e, ap (λ (x : Bor (List ℕ)). next_start_lem x.now (after t k).at) e ∙ ap (next_start_lem t.now) p)
 
   -- what is handed out there is line k, counted from 0, where it lies
-  pub reader_line : (k : ℕ) (r : MutBor (List ℕ)) → LineOf (after t k).text (in_text_lem (after t k).text.now (after t k).at) r → LineOf t (place_of t.now k) r
+  pub reader_line : (k : ℕ) (r : Bor (List ℕ)) → LineOf (after t k).text (in_text_lem (after t k).text.now (after t k).at) r → LineOf t (place_of t.now k) r
   reader_line k r x =
       let (e, p) = reader_at k in
       subst (λ (a : ℕ). LineOf t a r) (in-text t.now (place_of t.now k) (place_le t.now k))
-      (subst (λ (a : ℕ). LineOf t (in_text_lem t.now a) r) p (subst (λ (y : MutBor (List ℕ)). LineOf y (in_text_lem y.now (after t k).at) r) e x))
+      (subst (λ (a : ℕ). LineOf t (in_text_lem t.now a) r) p (subst (λ (y : Bor (List ℕ)). LineOf y (in_text_lem y.now (after t k).at) r) e x))
 
-  pub reader_here : (k : ℕ) (r : MutBor (List ℕ)) → LineOf (after t k).text (in_text_lem (after t k).text.now (after t k).at) r → r.now ≡ line_no_lem (lines_of t.now) k
+  pub reader_here : (k : ℕ) (r : Bor (List ℕ)) → LineOf (after t k).text (in_text_lem (after t k).text.now (after t k).at) r → r.now ≡ line_no_lem (lines_of t.now) k
   reader_here k r x = line_bytes t k r (reader_line k r x)
 
   -- it is at the end once it has left every line, and not before
   pub reader_ends : (k : ℕ) → at_end_lem (after t k) ≡ not (ltb k lines)
   reader_ends k =
       let (e, p) = reader_at k in
-      ap (λ (y : MutBor (List ℕ)). not (ltb (after t k).at (length y.now))) e ∙ ap (λ (a : ℕ). not (ltb a (length t.now))) p ∙ go (ltb k lines) refl
+      ap (λ (y : Bor (List ℕ)). not (ltb (after t k).at (length y.now))) e ∙ ap (λ (a : ℕ). not (ltb a (length t.now))) p ∙ go (ltb k lines) refl
     where
       go : (x : Bool) → ltb k lines ≡ x → not (ltb (place_of t.now k) (length t.now)) ≡ not x
       go true e = rw (lt-ltb (place_of t.now k) (length t.now) (place_lt t.now k (ltb-true k lines e)))

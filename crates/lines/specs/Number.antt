@@ -1,10 +1,10 @@
 -- Numbers of 1 to 7 digits without leading zero; "0" itself may stand.
 --
---   digit b      : the byte b is one of 0 to 9
---   digits s     : the digits at the front of s, as many as stand there
---   value v ds   : v and then the digits ds, read in tens
---   proper k d   : k digits, the first of them d, are a number
---   number_of s   : the number at the front of s, with how many bytes it takes
+--   digit b     : the byte b is one of 0 to 9
+--   digits s    : the digits at the front of s, as many as stand there
+--   value v ds  : v and then the digits ds, read in tens
+--   proper k d  : k digits, the first of them d, are a number
+--   number_of s : the number at the front of s, with how many bytes it takes
 --
 -- Assumes nothing.
 use Rattle.std.specs.Prelude.{ℕ, ◌+◌, ◌-◌, ◌*◌, List, [], ◌∷◌, Bool, true, false, cond, length, get_or, leb, eqb}

@@ -1,11 +1,11 @@
 -- Numbers and words, written.
 --
---   decimal f n   : the digits of n, at most f of them, without leading zero
---   numeral n     : a number below 10,000,000, as it is written
---   one_line w u  : a line of the word w and one number, with its line feed
+--   decimal f n    : the digits of n, at most f of them, without leading zero
+--   numeral n      : a number below 10,000,000, as it is written
+--   one_line w u   : a line of the word w and one number, with its line feed
 --   two_line w u v : a line of the word w and two numbers with a space between, with its line feed
---   over o a x    : the bytes o with x put over them from place a on
---   Put o a x p b : x was put over the bytes o from place a on, which left p, and b is the place after it
+--   over o a x     : the bytes o with x put over them from place a on
+--   Put o a x p b  : x was put over the bytes o from place a on, which left p, and b is the place after it
 --
 -- Assumes nothing.
 use Rattle.std.specs.Prelude.{ℕ, zero, suc, ◌+◌, ◌/◌, ◌%◌, ◌≡◌, List, [], ◌∷◌, ◌++◌, cond, length, take, drop, leb}

@@ -1,11 +1,11 @@
 -- A reader: the lent text, the place in it where the reader stands, and the number of the line there, from 1.
 --
---   in_text_lem s a  : place a of the text s; past its end, the end
+--   in_text_lem s a       : place a of the text s; past its end, the end
 --   next_number_lem s a l : the number after l, where at place a there is a line to leave; at the text's end l stays, as the largest number does
---   start_of t        : the reader of t at its start, on line 1
---   next_of r         : the reader after r: `next`, once
---   at_end_lem r     : there is no line to leave
---   after t k        : the reader of t after k times `next`
+--   start_of t            : the reader of t at its start, on line 1
+--   next_of r             : the reader after r: `next`, once
+--   at_end_lem r          : there is no line to leave
+--   after t k             : the reader of t after k times `next`
 --
 -- Assumes nothing.
 use Rattle.std.specs.Prelude.{ℕ, zero, suc, ◌+◌, List, Bool, cond, not, length, ltb}

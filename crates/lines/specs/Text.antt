@@ -1,14 +1,14 @@
 -- Texts as lines, each ended by one line feed.
 --
---   Text          : a run of lines: none (done), one that is not ended, or one that is ended and those after it
---   lines_of s     : the lines of the bytes s
---   line_no_lem t k : line k of the lines t, counted from 0, without its line feed; nothing past the last
---   line_count t  : how many lines t has
---   Within t k    : line k, counted from 1 as in a refusal, is one of the lines t
---   first_line s  : the bytes before the first line feed
---   line_end_lem s a : where the line that starts at place a ends: at its line feed, or at the text's end
+--   Text               : a run of lines: none (done), one that is not ended, or one that is ended and those after it
+--   lines_of s         : the lines of the bytes s
+--   line_no_lem t k    : line k of the lines t, counted from 0, without its line feed; nothing past the last
+--   line_count t       : how many lines t has
+--   Within t k         : line k, counted from 1 as in a refusal, is one of the lines t
+--   first_line s       : the bytes before the first line feed
+--   line_end_lem s a   : where the line that starts at place a ends: at its line feed, or at the text's end
 --   next_start_lem s a : where the line after it starts: past its line feed, or at the text's end
---   place_of s k   : where line k starts, counted from 0; past the last, the text's end
+--   place_of s k       : where line k starts, counted from 0; past the last, the text's end
 --
 -- Assumes nothing.
 use Rattle.std.specs.Prelude.{ℕ, zero, suc, ◌+◌, ◌≤◌, List, [], ◌∷◌, Bool, true, false, cond, length, drop, eqb, ltb}

@@ -2,7 +2,7 @@
 --
 --   starts w s : s begins with the word w
 --   alone_of s : s is one number and nothing else
---   pair_of s   : s is two numbers with one space between, and nothing else
+--   pair_of s  : s is two numbers with one space between, and nothing else
 --
 -- Assumes nothing.
 use Rattle.std.specs.Prelude.{ℕ, ◌+◌, List, [], ◌∷◌, Bool, true, false, cond, length, drop, get_or, eqb}

@@ -30,4 +30,4 @@ returns-in-Valid c =
 pub returns : goal.returns
 returns c =
     subst (Answers clique_bound_lem clique_set c.args.rows.now) (sym c.unbounded.ensures)
-    (refused 64 clique_bound_lem clique_set c.args.rows.now c.validity-v.result c.validity-v.ensures (by_tag c.validity-v.result c.in_default.keys2))
+    (refused 64 clique_bound_lem clique_set c.args.rows.now c.validity-v.result c.validity-v.ensures c.in_default.not-Valid)

@@ -20,4 +20,4 @@ returns-in-Valid c =
 pub returns : goal.returns
 returns c =
     subst (Answers mycielskian no_members c.args.rows.now) (sym c.unbounded.ensures)
-    (refused 64 mycielskian no_members c.args.rows.now c.validity-v.result c.validity-v.ensures (by_tag c.validity-v.result c.in_default.keys2))
+    (refused 64 mycielskian no_members c.args.rows.now c.validity-v.result c.validity-v.ensures c.in_default.not-Valid)

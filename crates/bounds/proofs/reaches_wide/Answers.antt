@@ -14,7 +14,7 @@ returns-then-size-best c =
 
 pub bound_among-requires : goal.bound_among-requires
 bound_among-requires c =
-    let pre = c.requires in record { rows_len = pre.0; holds_at = pre.1 }
+    let pre = c.requires in record { rows_len = pre.rows_len; holds_at = pre.holds_at }
 
 pub returns : goal.returns
 returns c =

@@ -5,11 +5,11 @@ use Rattle.graphs.proofs.LoopLaws.{size_le}
 use Rattle.cliques.proofs.clique.Goals as goal
 
 pub clique_among-requires : goal.clique_among-requires
-clique_among-requires c = (c.??before, c.??before)
+clique_among-requires c = (c.args.h, c.requires)
 
 pub returns : goal.returns
 returns c =
-    elim (c.clique_among.ensures c.??before c.??before) [
+    elim (c.clique_among.ensures c.args.h c.requires) [
       | inl e ↦ e
       | inr e ↦ absurd (let z : ⊥ = omega (arith, size_le 64 c.clique_among.result) in z)
     ]

@@ -16,16 +16,13 @@ loop-free-init c = (sym (size_none 64), λ m k. hunt_start (holding c.args.live 
 
 pub opened-c-requires : goal.opened-c-requires
 opened-c-requires c =
-    (c.requires, (c.lowest-s.ensures.below, (c.loop-free.invariant.1 c.requires.0 c.requires.1).free_live c.lowest-s.result c.lowest-s.ensures.member))
+    record { holds = c.requires; s_bound = c.lowest-s.ensures.below; t = (c.loop-free.invariant.1 c.requires.0 c.requires.1).free_live c.lowest-s.result c.lowest-s.ensures.member }
 
 pub grow-d-requires : goal.grow-d-requires
 grow-d-requires c =
     let low = c.lowest-s in
     let opened = c.opened-c in
-    let h = holding c.args.live c.args.rows.now c.requires.0 in (
-      (c.args.live, near_live h c.requires.1 (opening h.n (view h) low.result) opened.result (opened.ensures c.requires.0 c.requires.1), c.requires),
-      λ x t. t,
-    )
+    let h = holding c.args.live c.args.rows.now c.requires.0 in record { by_index = (c.args.live, near_live h c.requires.1 (opening h.n (view h) low.result) opened.result (opened.ensures c.requires.0 c.requires.1), c.requires); within = λ x t. t }
 
 pub returns-then-enough-most : goal.returns-then-enough-most
 returns-then-enough-most c =

@@ -8,8 +8,8 @@ use Rattle.cliques.proofs.grow.Given as goal
 
 abbrev pub invariant-loop-rest : goal.invariant-loop-rest
 invariant-loop-rest l =
-    (l : ℕ) (m : Node) → (k : Held (holding l l.rows m)) → Within l.left l.initial.near → Within l.initial.near l
-    → Turn (holding l l.rows m) k (record { l.set = l.initial.set; l.near = l.initial.near }) l.left (record { l.set = l.set; l.near = l.near }) l.rest
+    (live : ℕ) (m : Node) → (k : Held (holding live l.rows m)) → Within l.left l.initial.near → Within l.initial.near live
+    → Turn (holding live l.rows m) k (record { set = l.initial.set; near = l.initial.near }) l.left (record { set = l.set; near = l.near }) l.rest
 
 abbrev pub decreases-loop-rest : goal.decreases-loop-rest
 decreases-loop-rest l = size 64 l.rest

@@ -16,11 +16,8 @@ led-best-requires c =
     let l = c.loop-left in
     let low = c.lowest-u in
     let w = c.rest-left in
-    let met = c.meet-near in (
-      c.requires.1.rows_long,
-      row_mutual (holding c.args.live c.args.rows.now c.requires.0) c.requires.1 low.result w.result met.result c.less-apart.result
-          (λ x t. l.invariant.rest.within x (without_kept l.left low.result w.result x (w.ensures low.result low.ensures) t).0) met.ensures c.less-apart.ensures,
-    )
+    let met = c.meet-near in record { rows_len = c.requires.1.rows_long; fact = row_mutual (holding c.args.live c.args.rows.now c.requires.0) c.requires.1 low.result w.result met.result c.less-apart.result
+          (λ x t. l.invariant.rest.within x (without_kept l.left low.result w.result x (w.ensures low.result low.ensures) t).0) met.ensures c.less-apart.ensures }
 
 pub loop-left-smaller : goal.loop-left-smaller
 loop-left-smaller c =

@@ -1,5 +1,4 @@
 -- `lines::begins` meets its contract: what is left of the word is compared with what is left of the line. Assumes nothing.
-use Prim.Native.Nat.{◌-◌}
 use mathlib.Core.Path.{refl, sym, ◌∙◌}
 use Rattle.lines.proofs.Words.{starts_all, starts_short, starts_other, starts_more}
 use native.Mathlib.Omega.{arith}

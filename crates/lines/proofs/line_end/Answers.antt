@@ -1,5 +1,4 @@
 -- `lines::line_end` meets its contract: `first_line` of what is left, counted from where the loop is, is what it was. Assumes nothing.
-use Prim.Native.Nat.{◌-◌}
 use mathlib.Core.Path.{ap}
 use lib.ListN.{length}
 use Rattle.lines.proofs.Lines.{line_stop, line_more, line_none}

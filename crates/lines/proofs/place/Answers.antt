@@ -1,5 +1,5 @@
 -- `lines::place` meets its contract: after i lines the place is line i's. At the text's end it stays. Assumes nothing.
-use Prim.Native.Nat.{ℕ, ◌-◌}
+use Prim.Native.Nat.{ℕ}
 use mathlib.Core.Path.{◌≡◌, refl, ap, sym, ◌∙◌}
 use Rattle.lines.specs.Text.{place_of, next_start_lem}
 use Rattle.lines.proofs.Lines.{place_next, place_past}

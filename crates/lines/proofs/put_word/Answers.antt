@@ -1,5 +1,4 @@
 -- `lines::put_word` meets its contract: what is left of the word, put from here, is the word put at the start (`Left`). Assumes nothing.
-use Prim.Native.Nat.{◌-◌}
 use Rattle.lines.proofs.Writing.{word_begin, word_more, word_none}
 use native.Mathlib.Omega.{arith}
 use Rattle.lines.proofs.put_word.Goals as goal

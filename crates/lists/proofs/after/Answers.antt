@@ -9,11 +9,15 @@ use Rattle.lines.specs.Number.{digit}
 use Rattle.lists.specs.Pattern.{pattern_of}
 use Rattle.lists.proofs.PatternLaws.{digit_last, digit_more, after_past, after_anything, after_zero, after_figure, after_no_digit, after_itself, after_other}
 use Rattle.lists.proofs.after.Goals as goal
-use Rattle.lists.proofs.after.Goals.{Joined-more-gt0}
+use Rattle.lists.proofs.after.Goals.{Joined-more-gt0, then-more-gt0+else-is_digit, else-more-gt0}
 
 -- where the arms meet: within a number only before a byte that is no digit
 past : (c : Joined-more-gt0) → 0 < c.args.d.digits → digit c.args.b ≡ false
-past c h = ⊎_elim (λ w. sym w.1.ensures ∙ w.2.left) (λ w. absurd (omega arith)) c.if-more-gt0.branch
+past c h =
+    elim c.if-more-gt0.branch [
+      | then-more-gt0+else-is_digit w ↦ sym w.is_digit.ensures ∙ w.if-is_digit.false
+      | else-more-gt0 w ↦ absurd (omega arith)
+    ]
 
 pub returns-then-more-eq1 : goal.returns-then-more-eq1
 returns-then-more-eq1 c =

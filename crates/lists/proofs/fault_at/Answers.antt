@@ -38,4 +38,4 @@ returns-in_default c =
     let a = c.args in
     sym (fault_piece a.w.now a.d.at a.d.digits a.digit (omega arith) c.if-w-at.false
     (letter (get_or a.w.now a.d.at 0))
-    (rw (ne_eqb _ 48 c.in_default.rest.0.0.1, ne_eqb _ 32 c.in_default.rest.0.1, ne_eqb _ 42 c.in_default.rest.1)))
+    (rw (ne_eqb _ 48 c.in_default.in_default-own.rest.0.0.1, ne_eqb _ 32 c.in_default.in_default-own.rest.0.1, ne_eqb _ 42 c.in_default.in_default-own.rest.1)))

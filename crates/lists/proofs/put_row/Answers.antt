@@ -1,7 +1,6 @@
 -- `lists::put_row` meets its contract: the lines that are left, put from here, are all of them put at the start (`Left`). Assumes nothing.
 use Prim.Native.Nat.{◌+◌, ◌-◌}
 use mathlib.Core.Path.{sym, ap, ◌∙◌}
-use mathlib.Core.Logic.{⊎_elim}
 use Rattle.lines.specs.Numeral.{two_line}
 use Rattle.lines.proofs.Writing.{Left, left_begin, left_room, left_put, left_skip, left_none, two_length}
 use Rattle.lists.specs.Shape.{e_word}
@@ -10,7 +9,7 @@ use Rattle.lists.specs.Write.{edges_text}
 use Rattle.lists.proofs.EdgeLaws.{edge_line, no_line, row_end}
 use native.Mathlib.Omega.{arith}
 use Rattle.lists.proofs.put_row.Goals as goal
-use Rattle.lists.proofs.put_row.Goals.{Joined-has}
+use Rattle.lists.proofs.put_row.Goals.{Joined-has, then-has, else-has}
 
 stepped : (c : Joined-has) →
     let a = c.args in
@@ -19,13 +18,15 @@ stepped : (c : Joined-has) →
 stepped c =
     let a = c.args in
     let b = c.loop-j in
-    ⊎_elim
-    (λ w. rw (w.6, w.7)
-    (left_put _ _ _ b.out b.a _ b.invariant.2 (two_line e_word (a.i + 1) (b.j + 1)) _
-    (edge_line a.row a.i b.j a.n c.loop-j-test.true (sym c.has.ensures ∙ w.0.taken)) _ _ w.3.ensures))
-    (λ w. rw (w.1, w.2)
-    (left_skip _ _ _ b.out b.a _ b.invariant.2 _ (no_line a.row a.i b.j a.n c.loop-j-test.true (sym c.has.ensures ∙ w.0.left))))
-    c.if-has.branch
+    elim c.if-has.branch [
+      | then-has w ↦
+          rw (w.out-is, w.a-is)
+          (left_put _ _ _ b.out b.a _ b.invariant.2 (two_line e_word (a.i + 1) (b.j + 1)) _
+          (edge_line a.row a.i b.j a.n c.loop-j-test.true (sym c.has.ensures ∙ w.if-has.true)) _ _ w.put_two-a.ensures)
+      | else-has w ↦
+          rw (w.out-is, w.a-is)
+          (left_skip _ _ _ b.out b.a _ b.invariant.2 _ (no_line a.row a.i b.j a.n c.loop-j-test.true (sym c.has.ensures ∙ w.if-has.false)))
+    ]
 
 pub loop-j-init : goal.loop-j-init
 loop-j-init c = (omega arith, omega arith, left_begin c.args.out.now c.args.at _ c.requires.1)

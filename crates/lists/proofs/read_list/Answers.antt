@@ -1,18 +1,21 @@
 -- `lists::read_list` meets its contract: so many rows are copied as the answer accepts. Assumes nothing.
 use Prim.Native.Nat.{ℕ}
 use mathlib.Core.Path.{◌≡◌, sym, ap, ◌∙◌}
-use mathlib.Core.Logic.{⊎_elim}
 use lib.ListN.{length}
 use Rattle.lists.specs.Read.{most_entries, longest_text}
 use Rattle.lists.proofs.Answers.{stored, stored_fits, stored_promise}
 use borrow.Author.Rules.{rules}
 use native.Mathlib.Omega.{arith}
 use Rattle.lists.proofs.read_list.Goals as goal
-use Rattle.lists.proofs.read_list.Goals.{Joined-answer}
+use Rattle.lists.proofs.read_list.Goals.{Joined-answer, in-Read, in_default}
 
 -- where the arms meet: none where refused, n where accepted
 counted : (c : Joined-answer) → (◌≡◌ {A = ℕ} c.match-answer.stored (stored c.gather-found.result.answer)) × (c.match-answer.answer ≡ c.gather-found.result.answer)
-counted c = ⊎_elim (λ w. (w.4 ∙ sym (ap stored w.1.given.1), w.3 ∙ sym w.1.given.1)) (λ w. (w.3 ∙ sym (ap stored w.1.given.1), w.2)) c.match-answer.branch
+counted c =
+    elim c.match-answer.branch [
+      | in-Read w ↦ (w.stored-is ∙ sym (ap stored w.in-Read.is), w.answer-is ∙ sym w.in-Read.is)
+      | in_default w ↦ (w.stored-is ∙ sym (ap stored w.in_default.is), w.answer-is)
+    ]
 
 pub copy_rows-requires : goal.copy_rows-requires
 copy_rows-requires c =

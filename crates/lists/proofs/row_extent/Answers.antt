@@ -6,7 +6,7 @@ use Rattle.lists.specs.Edges.{row_edges}
 use Rattle.lists.proofs.EdgeLaws.{Counted, count_yes, count_no, count_none, count_all, row_end}
 use native.Mathlib.Omega.{arith}
 use Rattle.lists.proofs.row_extent.Goals as goal
-use Rattle.lists.proofs.row_extent.Goals.{Joined-has}
+use Rattle.lists.proofs.row_extent.Goals.{Joined-has, then-has, else-has}
 
 counted : (c : Joined-has) →
     let a = c.args in
@@ -16,20 +16,20 @@ counted : (c : Joined-has) →
 counted c =
     let a = c.args in
     let b = c.loop-j in
-    ⊎_elim
-    (λ w. (
-      omega arith,
-      omega arith,
-      count_yes _ b.edges b.bytes a.row a.i b.j a.n c.loop-j-test.true b.invariant.4
-          (sym c.has.ensures ∙ w.0.taken) c.if-has.edges c.if-has.bytes (omega arith) (omega arith),
-    ))
-    (λ w. (
-      omega arith,
-      omega arith,
-      count_no _ b.edges b.bytes a.row a.i b.j a.n c.loop-j-test.true b.invariant.4
-          (sym c.has.ensures ∙ w.0.left) c.if-has.edges c.if-has.bytes (omega arith) (omega arith),
-    ))
-    c.if-has.branch
+    elim c.if-has.branch [
+      | then-has w ↦ (
+        omega arith,
+        omega arith,
+        count_yes _ b.edges b.bytes a.row a.i b.j a.n c.loop-j-test.true b.invariant.4
+            (sym c.has.ensures ∙ w.if-has.true) c.if-has.edges c.if-has.bytes (omega arith) (omega arith),
+      )
+      | else-has w ↦ (
+        omega arith,
+        omega arith,
+        count_no _ b.edges b.bytes a.row a.i b.j a.n c.loop-j-test.true b.invariant.4
+            (sym c.has.ensures ∙ w.if-has.false) c.if-has.edges c.if-has.bytes (omega arith) (omega arith),
+      )
+    ]
 
 pub loop-j-init : goal.loop-j-init
 loop-j-init c = (omega arith, omega arith, omega arith, omega arith, count_all _)

@@ -8,14 +8,6 @@ use Rattle.lists.proofs.Shapes.{shape_p, shape_e}
 use native.Mathlib.Omega.{arith}
 use Rattle.lists.proofs.shape_of.Goals as goal
 
-part-two-start-2 : goal.Need-slice-bounds-two-start-2
-part-two-start-2 c =
-    omega (
-      arith,
-      starts_long e_word c.before.before.before.before.before.before.before.before.before.args.s.now
-          (sym c.before.begins2.ensures ∙ c.if3.true),
-    )
-
 pub slice_bounds-two-count : goal.slice_bounds-two-count
 slice_bounds-two-count c =
     omega (
@@ -77,3 +69,7 @@ returns-in-Neither-two c =
     ∙ c.if-begins.false) (sym c.begins-2.ensures
     ∙ c.if-begins-2.true)
     (sym (ap pair_of (rest s 2)) ∙ sym c.two-then-begins-2.ensures ∙ c.in-Neither-two.is))
+
+pub slice_bounds-two-start-then-begins-2 : goal.slice_bounds-two-start-then-begins-2
+slice_bounds-two-start-then-begins-2 c =
+    omega (arith, starts_long e_word c.args.s.now (sym c.begins-2.ensures ∙ c.if-begins-2.true))

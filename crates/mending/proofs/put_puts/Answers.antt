@@ -20,7 +20,7 @@ put_entry-a-requires c =
     let w = c.lowest-e.ensures in
     let e = c.lowest-e.result in (
       w.below,
-      omega (arith, c.wide.ensures, c.type_inv.colours.given e),
+      omega (arith, c.wide.ensures, c.type_inv.colours e),
       puts_room c.args.colours.now b.left e c.wide.result w c.wide.ensures c.args.out.now c.args.at _ b.out b.a b.invariant.1,
     )
 

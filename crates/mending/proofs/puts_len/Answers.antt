@@ -24,10 +24,10 @@ pub bounds-colours-e : goal.bounds-colours-e
 bounds-colours-e c = let b = c.loop-left in b.invariant.0 _ c.lowest-e.ensures.member
 
 pub overflow_add-wide : goal.overflow_add-wide
-overflow_add-wide c = omega (arith, c.wide.ensures, c.type_inv.colours.given c.lowest-e.result)
+overflow_add-wide c = omega (arith, c.wide.ensures, c.type_inv.colours c.lowest-e.result)
 
 pub number_len-requires-in-loop-left : goal.number_len-requires-in-loop-left
-number_len-requires-in-loop-left c = omega (arith, c.wide.ensures, c.type_inv.colours.given c.lowest-e.result)
+number_len-requires-in-loop-left c = omega (arith, c.wide.ensures, c.type_inv.colours c.lowest-e.result)
 
 pub overflow_add-bytes : goal.overflow_add-bytes
 overflow_add-bytes c = omega (arith, c.number_len.ensures.1, c.number_len-in-loop-left.ensures.1)

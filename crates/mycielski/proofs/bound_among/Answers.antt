@@ -29,12 +29,9 @@ returns-then-size-b c =
 pub first_witnesses-ws-requires : goal.first_witnesses-ws-requires
 first_witnesses-ws-requires c =
     let r = c.clique_among-c in
-    let h = holding c.args.live c.args.rows.now c.requires.0 in (
-      c.requires.1.rows_long,
-      clique_live h c.requires.1 r.result
+    let h = holding c.args.live c.args.rows.now c.requires.0 in record { rows_len = c.requires.1.rows_long; within = clique_live h c.requires.1 r.result
           (reaches_short h c.requires.1 c.args.enough r.result (r.ensures c.requires.0 c.requires.1)
-          (omega (arith, c.if-enough-b.false, c.size-b.ensures))),
-    )
+          (omega (arith, c.if-enough-b.false, c.size-b.ensures))) }
 
 pub returns-then-ws-eq0 : goal.returns-then-ws-eq0
 returns-then-ws-eq0 c =
@@ -69,19 +66,7 @@ climb-requires c =
     let r = c.clique_among-c in
     let sized = c.size-b in
     let test = c.if-enough-b in
-    let sized2 = c.size in (
-      c.requires,
-      (
-        λ m k. reaches_short (holding c.args.live c.args.rows.now m) k c.args.enough r.result (r.ensures m k) (omega (arith, test.false, sized.ensures)),
-        (
-          λ m k. c.first_witnesses-ws.ensures m k,
-          (
-            c.if-ws-eq0.false,
-            omega (arith, c.if-size-b.false, sized2.ensures, sized.ensures),
-          ),
-        ),
-      ),
-    )
+    let sized2 = c.size in record { holds = c.requires; each = λ m k. reaches_short (holding c.args.live c.args.rows.now m) k c.args.enough r.result (r.ensures m k) (omega (arith, test.false, sized.ensures)); each_2 = λ m k. c.first_witnesses-ws.ensures m k; fact = c.if-ws-eq0.false; c_bound = omega (arith, c.if-size-b.false, sized2.ensures, sized.ensures) }
 
 pub returns : goal.returns
 returns c = λ m k. c.climb.ensures m k

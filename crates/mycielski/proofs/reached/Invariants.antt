@@ -7,7 +7,7 @@ use Rattle.mycielski.proofs.SetLoops.{Reached}
 use Rattle.mycielski.proofs.reached.Given as goal
 
 abbrev pub invariant-loop-left : goal.invariant-loop-left
-invariant-loop-left l = Within l.left l.s × ((l : ℕ) (m : Node) → (k : Held (holding l l.rows m)) → Within l.s l → Reached (holding l l.rows m) k l.s l.r l.left)
+invariant-loop-left l = Within l.left l.s × ((live : ℕ) (m : Node) → (k : Held (holding live l.rows m)) → Within l.s live → Reached (holding live l.rows m) k l.s l.r l.left)
 
 abbrev pub decreases-loop-left : goal.decreases-loop-left
 decreases-loop-left l = size 64 l.left

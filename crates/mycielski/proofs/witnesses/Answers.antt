@@ -18,7 +18,7 @@ loop-left-init c =
     (λ x t. t, λ m k i. witness_start (holding a.live a.rows.now m) k a.set (λ x y. has (get_or a.near.now x 0) y) i a.live)
 
 pub serving-s-requires : goal.serving-s-requires
-serving-s-requires c = (c.requires.rows_len.0, λ x t. c.requires.among.ends c.lowest-v.result x t)
+serving-s-requires c = record { rows_len = c.requires.rows_len.0; within = λ x t. c.requires.among.ends c.lowest-v.result x t }
 
 pub returns-then-ws-eq0 : goal.returns-then-ws-eq0
 returns-then-ws-eq0 c =

@@ -14,14 +14,8 @@ use Rattle.graphs.proofs.LoopLaws.{left_falls}
 use Rattle.shrink.specs.Rules.{Removal, is_covered, choose}
 use Rattle.removing.proofs.ShareLaws.{size_nobody}
 use Rattle.removing.proofs.LookLaws.{looked_start, looked_next, looked_found, looked_end, covered_here, covered_none, covered_some, covered_noted}
+use Rattle.removing.proofs.first_covered.Invariants.{test, pick}
 use Rattle.removing.proofs.first_covered.Goals as goal
-
--- who is covered, and what the lowest of them comes to
-abbrev test : List ℕ → ℕ → ℕ → Bool
-test rows present = is_covered (length rows) (matrix rows) (has present)
-
-abbrev pick : List ℕ → ℕ → Option ℕ → Option Removal
-pick rows present o = choose (length rows) (matrix rows) (has present) o none
 
 pub loop-left-init : goal.loop-left-init
 loop-left-init c =

@@ -12,14 +12,8 @@ use Rattle.graphs.proofs.LoopLaws.{left_falls}
 use Rattle.shrink.specs.Rules.{Removal, has_few, choose}
 use Rattle.removing.proofs.ShareLaws.{size_nobody}
 use Rattle.removing.proofs.LookLaws.{looked_start, looked_next, looked_found, looked_end, few_some, few_none, few_here, removal_few}
+use Rattle.removing.proofs.first_few.Invariants.{test, pick}
 use Rattle.removing.proofs.first_few.Goals as goal
-
--- who has few, and what the lowest of them comes to
-abbrev test : List ℕ → ℕ → ℕ → ℕ → Bool
-test rows present bound = has_few (length rows) (matrix rows) (has present) bound
-
-abbrev pick : List ℕ → ℕ → Option ℕ → Option Removal
-pick rows present o = choose (length rows) (matrix rows) (has present) none o
 
 pub loop-left-init : goal.loop-left-init
 loop-left-init c =

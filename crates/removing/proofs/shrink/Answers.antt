@@ -30,13 +30,10 @@ pub below-present-requires : goal.below-present-requires
 below-present-requires c = c.requires.apart.inside.few
 
 pub next-goes-requires : goal.next-goes-requires
-next-goes-requires c = (
-  c.requires.apart.inside.few,
-  record {
+next-goes-requires c = record { rows_len_bound = c.requires.apart.inside.few; listed = record {
     valid = sound_valid c.args.rows.now c.requires;
     entries = λ x t. ltb→lt x (length c.args.rows.now) (subst T (c.below-present.ensures x) t);
-  },
-)
+  } }
 
 pub loop-goes-init : goal.loop-goes-init
 loop-goes-init c =
@@ -63,14 +60,11 @@ without-present-requires c = let e = entries (goal.at.without-present-requires c
 
 pub next-goes-requires-in-loop-goes : goal.next-goes-requires-in-loop-goes
 next-goes-requires-in-loop-goes c =
-    let l = c.loop-goes in (
-      c.requires.apart.inside.few,
-      record {
+    let l = c.loop-goes in record { rows_len_bound = c.requires.apart.inside.few; listed = record {
         valid = sound_valid c.args.rows.now c.requires;
         entries = without_entries (length c.args.rows.now) l.present l.goes.who c.without-present.result l.invariant.entries
             c.without-present.ensures;
-      },
-    )
+      } }
 
 pub loop-goes-smaller : goal.loop-goes-smaller
 loop-goes-smaller c =

@@ -11,16 +11,15 @@ use Rattle.clashes.specs.Divisions.{at, division}
 use Rattle.removing.proofs.ShareLaws.{nobody}
 use Rattle.restoring.proofs.SeatLaws.{Numbering, numbering_start, numbering_opens, numbering_joins, numbering_long, smallest, own_group}
 use Rattle.restoring.proofs.number.Goals as goal
-use Rattle.restoring.proofs.number.Goals.{In-loop-i}
+use Rattle.restoring.proofs.number.Goals.{At-loop-i, then-w-i, else-w-i}
 
 -- what is known of the next entry
-known : (c : In-loop-i)
+known : (c : At-loop-i) → c.loop-i.i < c.args.n
     → let i = c.loop-i.i in
     (i < 64) × (get_or c.args.seats.group i 0 < 64) × (i < length c.args.colours.now)
     × (length c.loop-i.colours ≡ length c.args.colours.now)
-known c =
-    let l = c.loop-i in
-    let t = c.loop-i-test.true in (
+known c t =
+    let l = c.loop-i in (
       omega (arith, t, c.requires.few),
       c.requires.below l.i t,
       omega (arith, t, c.requires.bytes),
@@ -31,35 +30,35 @@ pub loop-i-init : goal.loop-i-init
 loop-i-init c = (search rules, numbering_start _ _)
 
 pub bounds-group-i : goal.bounds-group-i
-bounds-group-i c = (known c).0
+bounds-group-i c = (known (goal.at.bounds-group-i c).At-loop-i c.loop-i-test.true).0
 
 pub overflow_cast-j : goal.overflow_cast-j
-overflow_cast-j c = omega (arith, (known c).1)
+overflow_cast-j c = omega (arith, (known (goal.at.overflow_cast-j c).At-loop-i c.loop-i-test.true).1)
 
 pub offset_bounds-sets-j : goal.offset_bounds-sets-j
-offset_bounds-sets-j c = omega (arith, (known c).1)
+offset_bounds-sets-j c = omega (arith, (known (goal.at.offset_bounds-sets-j c).At-loop-i c.loop-i-test.true).1)
 
 pub bounds-sets-j : goal.bounds-sets-j
-bounds-sets-j c = (known c).1
+bounds-sets-j c = (known (goal.at.bounds-sets-j c).At-loop-i c.loop-i-test.true).1
 
 -- the entry is in its own group
 pub lowest-w-requires : goal.lowest-w-requires
 lowest-w-requires c e =
     nobody _ c.loop-i.i e (own_group 64 c.args.n c.args.seats.group c.args.seats.sets c.requires.sets c.loop-i.i
-    c.loop-i-test.true (known c).1)
+    c.loop-i-test.true (known (goal.at.lowest-w-requires c).At-loop-i c.loop-i-test.true).1)
 
 pub bounds-colours-i : goal.bounds-colours-i
-bounds-colours-i c = let k = known (goal.at.bounds-colours-i c).In-loop-i in omega arith
+bounds-colours-i c = let k = known (goal.at.bounds-colours-i c).At-loop-i c.loop-i-test.true in omega arith
 
 pub overflow_add-next : goal.overflow_add-next
-overflow_add-next c = let k = known (goal.at.overflow_add-next c).In-loop-i in omega (arith, c.loop-i.invariant.1.few)
+overflow_add-next c = let k = known (goal.at.overflow_add-next c).At-loop-i c.loop-i-test.true in omega (arith, c.loop-i.invariant.1.few)
 
 -- its group's smallest is before it
 pub bounds-colours-w : goal.bounds-colours-w
 bounds-colours-w c =
     let l = c.loop-i in
     let low = c.lowest-w in
-    let k = known (goal.at.bounds-colours-w c).In-loop-i in
+    let k = known (goal.at.bounds-colours-w c).At-loop-i c.loop-i-test.true in
     omega (
       arith,
       smallest 64 c.args.n c.args.seats.group c.args.seats.sets c.requires.sets l.i low.result
@@ -67,29 +66,30 @@ bounds-colours-w c =
     )
 
 pub bounds-colours-i-else-w-i : goal.bounds-colours-i-else-w-i
-bounds-colours-i-else-w-i c = let k = known (goal.at.bounds-colours-i-else-w-i c).In-loop-i in omega arith
+bounds-colours-i-else-w-i c = let k = known (goal.at.bounds-colours-i-else-w-i c).At-loop-i c.loop-i-test.true in omega arith
 
 pub overflow_add-i : goal.overflow_add-i
-overflow_add-i c = let k = known (goal.at.overflow_add-i c).In-loop-i in omega arith
+overflow_add-i c = let k = known (goal.at.overflow_add-i c).At-loop-i c.loop-i-test.true in omega arith
 
 pub loop-i-preserved : goal.loop-i-preserved
 loop-i-preserved c =
     let l = c.loop-i in
     let t = c.loop-i-test.true in
     let low = c.lowest-w in
-    let k = known (goal.at.loop-i-preserved c).In-loop-i in (
+    let k = known (goal.at.loop-i-preserved c).At-loop-i c.loop-i-test.true in (
       omega (arith, t),
-      ⊎_elim
-          (λ w.
-          subst₂ (λ (o : List ℕ) (m : ℕ). Numbering c.args.seats.group c.args.colours.now o m (l.i + 1)) (sym w.1) (sym w.2)
-          (numbering_opens 64 c.args.n c.args.seats.group c.args.seats.sets c.requires.sets c.args.colours.now l.colours
-          l.next l.i low.result l.invariant.1 t
-          k.2 k.1 low.ensures w.0.taken))
-          (λ w.
-          subst₂ (λ (o : List ℕ) (m : ℕ). Numbering c.args.seats.group c.args.colours.now o m (l.i + 1)) (sym w.2) (sym w.3)
-          (numbering_joins 64 c.args.n c.args.seats.group c.args.seats.sets c.requires.sets c.args.colours.now l.colours
-          l.next l.i low.result l.invariant.1 t
-          k.2 k.1 low.ensures w.0.left)) c.if-w-i.branch,
+      elim c.if-w-i.branch [
+        | then-w-i w ↦
+            subst₂ (λ (o : List ℕ) (m : ℕ). Numbering c.args.seats.group c.args.colours.now o m (l.i + 1)) (sym w.colours-is) (sym w.next-is)
+            (numbering_opens 64 c.args.n c.args.seats.group c.args.seats.sets c.requires.sets c.args.colours.now l.colours
+            l.next l.i low.result l.invariant.1 t
+            k.2 k.1 low.ensures w.if-w-i.true)
+        | else-w-i w ↦
+            subst₂ (λ (o : List ℕ) (m : ℕ). Numbering c.args.seats.group c.args.colours.now o m (l.i + 1)) (sym w.colours-is) (sym w.next-is)
+            (numbering_joins 64 c.args.n c.args.seats.group c.args.seats.sets c.requires.sets c.args.colours.now l.colours
+            l.next l.i low.result l.invariant.1 t
+            k.2 k.1 low.ensures w.if-w-i.false)
+      ],
     )
 
 pub shape_of-colours : goal.shape_of-colours

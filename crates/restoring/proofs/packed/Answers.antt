@@ -9,10 +9,10 @@ use Rattle.graphs.proofs.LoopLaws.{size_le, left_falls}
 use Rattle.restoring.specs.Rows.{names}
 use Rattle.restoring.proofs.TurnLaws.{packing_start, packing_next, packing_end, place_below}
 use Rattle.restoring.proofs.packed.Goals as goal
-use Rattle.restoring.proofs.packed.Goals.{After-rest-left, After-way_told-1}
+use Rattle.restoring.proofs.packed.Goals.{After-lowest-w}
 
 -- what stands in the array is the place of the lowest
-placed : (c : After-rest-left)
+placed : (c : After-lowest-w)
     → let w = c.lowest-w.result in
     (get_or c.args.places.now w 0 ≡ place ℕ_discrete w (names 64 c.args.present)) × (get_or c.args.places.now w 0 < 64)
 placed c =
@@ -26,10 +26,10 @@ pub loop-left-init : goal.loop-left-init
 loop-left-init c = let a = c.args in packing_start 64 a.present a.row c.meet-left.result c.meet-left.ensures
 
 pub overflow_cast-place : goal.overflow_cast-place
-overflow_cast-place c = omega (arith, (placed (goal.at.overflow_cast-place c).After-way_told-1).1)
+overflow_cast-place c = omega (arith, (placed (goal.at.overflow_cast-place c).After-lowest-w).1)
 
 pub with-out-requires : goal.with-out-requires
-with-out-requires c = (placed (goal.at.with-out-requires c).After-way_told-1).1
+with-out-requires c = (placed (goal.at.with-out-requires c).After-lowest-w).1
 
 pub loop-left-smaller : goal.loop-left-smaller
 loop-left-smaller c =
@@ -46,7 +46,7 @@ loop-left-preserved c =
     let r = c.rest-left in
     packing_next 64 a.present a.row l.out l.left low.result r.result c.with-out.result _ l.invariant low.ensures
     (r.ensures low.result low.ensures)
-    (placed (goal.at.loop-left-preserved c).After-way_told-1).0 c.with-out.ensures
+    (placed (goal.at.loop-left-preserved c).After-lowest-w).0 c.with-out.ensures
 
 pub returns : goal.returns
 returns c =

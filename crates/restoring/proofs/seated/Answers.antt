@@ -56,11 +56,11 @@ loop-left-preserved c =
     let l = c.loop-left in
     let low = c.lowest-w in
     let r = c.rest-left in
-    sitting_next 64 a.present a.t2 l.group l.sets l.left l.i low.result r.result c.with-members.result l.invariant low.ensures
+    sitting_next 64 a.present a.c l.group l.sets l.left l.i low.result r.result c.with-members.result l.invariant low.ensures
     (r.ensures low.result low.ensures) (few (goal.at.loop-left-preserved c).After-rest-left).1 c.with-members.ensures
 
 pub returns : goal.returns
 returns c =
     let a = c.args in
     let l = c.loop-left in
-    sitting_end 64 a.present a.t2 l.group l.sets l.left l.i a.many l.invariant c.loop-left-test.false
+    sitting_end 64 a.present a.c l.group l.sets l.left l.i a.many l.invariant c.loop-left-test.false

@@ -7,7 +7,7 @@ pub returns-then-size-t : goal.returns-then-size-t
 returns-then-size-t c =
     let f = c.improved in
     let z = c.size in
-    let strict = c.requires.n_in_bounds.1 in
+    let strict = c.requires.leaves_lt_nodes in
     record {
       long = f.ensures.long;
       is = λ cap rows few ready.
@@ -20,5 +20,5 @@ returns c =
     let z = c.size in
     record {
       long = refl;
-      is = λ cap rows few ready. compare_kept cap 256 few _ c.args.best.now c.args.s ready z.result z.ensures c.requires.n_in_bounds.1 c.if-size-t.false;
+      is = λ cap rows few ready. compare_kept cap 256 few _ c.args.best.now c.args.s ready z.result z.ensures c.requires.leaves_lt_nodes c.if-size-t.false;
     }

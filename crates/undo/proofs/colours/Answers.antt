@@ -1,6 +1,5 @@
 -- `undo::colours` meets its contract: the bytes below i are the groups of the entries below i, and next is how many they are. Assumes nothing.
 use mathlib.Core.Path.{refl, sym, subst₂}
-use mathlib.Core.Logic.{⊎_elim}
 use mathlib.Core.List.{List}
 use Prim.Native.Nat.{ℕ, ◌+◌, ◌-◌, ◌<◌}
 use native.Mathlib.Omega.{arith}
@@ -8,12 +7,13 @@ use lib.ListN.{length}
 use Rattle.undo.proofs.ColourLaws.{Numbered, numbered_opens, numbered_joins, numbered_all}
 use borrow.Author.Rules.{rules}
 use Rattle.undo.proofs.colours.Goals as goal
+use Rattle.undo.proofs.colours.Goals.{then-w-i, else-w-i}
 
 pub loop-i-init : goal.loop-i-init
 loop-i-init c = (search rules, record { long = refl; few = search rules; many = refl; is = refl; rest = λ j h. refl })
 
 pub overflow_cast-w : goal.overflow_cast-w
-overflow_cast-w c = record { fits = omega (arith, (c.type_inv.names.given c.loop-i.i).fits) }
+overflow_cast-w c = record { fits = omega (arith, (c.type_inv.names c.loop-i.i).fits) }
 
 pub bounds-out-i : goal.bounds-out-i
 bounds-out-i c =
@@ -38,13 +38,14 @@ loop-i-preserved c =
     let inside : l.i < length p = omega (arith, t, c.requires.n_in_bounds.0) in
     let room : l.i < length old = omega (arith, t, c.requires.n_in_bounds.1) in (
       omega (arith, t),
-      ⊎_elim
-          (λ w.
-          subst₂ (λ (o : List ℕ) (m : ℕ). Numbered p old o m (l.i + 1)) (sym w.1) (sym w.2)
-          (numbered_opens p old l.out l.next l.i c.requires.forest inside room l.invariant.1 w.0.taken))
-          (λ w.
-          subst₂ (λ (o : List ℕ) (m : ℕ). Numbered p old o m (l.i + 1)) (sym w.2) (sym w.3)
-          (numbered_joins p old l.out l.next l.i c.requires.forest inside room l.invariant.1 w.0.left)) c.if-w-i.branch,
+      elim c.if-w-i.branch [
+        | then-w-i w ↦
+            subst₂ (λ (o : List ℕ) (m : ℕ). Numbered p old o m (l.i + 1)) (sym w.out-is) (sym w.next-is)
+            (numbered_opens p old l.out l.next l.i c.requires.forest inside room l.invariant.1 w.if-w-i.true)
+        | else-w-i w ↦
+            subst₂ (λ (o : List ℕ) (m : ℕ). Numbered p old o m (l.i + 1)) (sym w.out-is) (sym w.next-is)
+            (numbered_joins p old l.out l.next l.i c.requires.forest inside room l.invariant.1 w.if-w-i.false)
+      ],
     )
 
 pub shape_of-out : goal.shape_of-out

@@ -10,4 +10,4 @@ returns-then-words-eq4 c =
     let all = linked_four s (search rules) (search rules) (search rules) (search rules) in record { form_2 = c.link_word-then-words-eq4-3.ensures.form_2; linked = all c.link_word.ensures.linked_by c.link_word-then-words-eq4.ensures.linked_by c.link_word-then-words-eq4-2.ensures.linked_by c.link_word-then-words-eq4-3.ensures.linked_by }
 
 pub returns-else-words-eq4 : goal.returns-else-words-eq4
-returns-else-words-eq4 c = record { form_2 = c.link_word.ensures.form_2; linked = linked_one c.args.s (not_four c.if-words-eq4.false c.requires.form) c.requires.u_bound.1 c.link_word.ensures.linked_by }
+returns-else-words-eq4 c = record { form_2 = c.link_word.ensures.form_2; linked = linked_one c.args.s (not_four c.if-words-eq4.false c.requires.form) c.requires.fits c.link_word.ensures.linked_by }

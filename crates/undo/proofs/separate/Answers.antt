@@ -8,4 +8,4 @@ pub returns : goal.returns
 returns c =
     let a = c.args in
     let one = c.mark.ensures in
-    let other = c.mark-2.ensures in record { form_2 = other.0; separates = separates_is (64 * a.words) (held a.words a.rows.now) _ _ a.u a.v one.1 other.1 }
+    let other = c.mark-2.ensures in record { form_2 = other.form_2; separates = separates_is (64 * a.words) (held a.words a.rows.now) _ _ a.u a.v one.marked other.marked }

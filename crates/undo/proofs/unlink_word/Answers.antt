@@ -34,10 +34,10 @@ loop-left-preserved c =
     let rest = c.rest-left in
     let done = c.unmark.ensures in
     let a = c.args in (
-      done.0,
+      done.form_2,
       λ x y.
           unlinked_next (held a.words l.rows) _ a.u l.left low.result rest.result a.from low.ensures.member
-          (rest.ensures low.result low.ensures) done.1 x y ∙ l.invariant.1 x y,
+          (rest.ensures low.result low.ensures) done.unmarked x y ∙ l.invariant.1 x y,
     )
 
 pub shape_of-rows : goal.shape_of-rows

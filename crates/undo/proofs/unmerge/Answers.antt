@@ -17,4 +17,4 @@ returns c =
     let near = num a.undo.near in
     let cut = c.unlink.ensures.unlinked in
     let put = c.put_row.ensures in
-    let inside = subst (λ (k : ℕ). a.u < k) (sym (rows_long a.words (64 * a.words) a.rows.now)) c.requires.u_bound.0 in record { form_2 = put.0; undone = subst (λ (l : List ℕ). Undone rows a.u old near l) (sym put.1) (undone_is rows _ a.u old near inside cut) }
+    let inside = subst (λ (k : ℕ). a.u < k) (sym (rows_long a.words (64 * a.words) a.rows.now)) c.requires.u_bound in record { form_2 = put.form_2; undone = subst (λ (l : List ℕ). Undone rows a.u old near l) (sym put.rows_after) (undone_is rows _ a.u old near inside cut) }

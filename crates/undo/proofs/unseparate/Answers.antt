@@ -7,4 +7,4 @@ pub returns : goal.returns
 returns c =
     let a = c.args in
     let one = c.unmark.ensures in
-    let other = c.unmark-2.ensures in record { form_2 = other.0; cut = cut_is (held a.words a.rows.now) _ _ a.u a.v one.1 other.1 }
+    let other = c.unmark-2.ensures in record { form_2 = other.form_2; cut = cut_is (held a.words a.rows.now) _ _ a.u a.v one.unmarked other.unmarked }

@@ -34,4 +34,4 @@ bounds-rows-at-2 c = place_in c.args.x c.args.u c.requires.form c.requires.x_bou
 pub returns : goal.returns
 returns c =
     let a = c.args in
-    let small : Small a.rows.now = λ i. (c.type_inv.rows.given i).fits in record { form_2 = form_written a.x a.u c.with-word.result c.requires.form small (search rules) c.requires.x_bound.0 c.requires.x_bound.1; marked = marked_is a.x a.u c.with-word.result c.requires.form small (search rules) c.requires.x_bound.0 c.requires.x_bound.1 c.with-word.ensures }
+    let small : Small a.rows.now = λ i. search rules in record { form_2 = form_written a.x a.u c.with-word.result c.requires.form small (search rules) c.requires.x_bound.0 c.requires.x_bound.1; marked = marked_is a.x a.u c.with-word.result c.requires.form small (search rules) c.requires.x_bound.0 c.requires.x_bound.1 c.with-word.ensures }

@@ -21,7 +21,7 @@ returns-then-words-eq1 c =
     let o = is_one c.if-words-eq1.true c.requires.form in record {
       result_value = c.up.ensures ∙ ap (λ l. get_or l a.i 0) (sym (held_one a.words l o));
       fits = subst (λ (w : ℕ). Fits (64 * w) (num c.up.result)) (sym o.words_one)
-          (lt_fits 64 (num c.up.result) (subst (λ (x : ℕ). x < 2 ^ 64) (sym c.up.ensures) (c.type_inv.rows.given a.i).fits));
+          (lt_fits 64 (num c.up.result) (subst (λ (x : ℕ). x < 2 ^ 64) (sym c.up.ensures) (c.type_inv.rows a.i).fits));
     }
 
 pub row-requires : goal.row-requires

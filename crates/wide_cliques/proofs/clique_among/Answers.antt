@@ -28,15 +28,15 @@ pub lowest-s-requires : goal.lowest-s-requires
 lowest-s-requires c =
     let empty = c.is_empty in
     let if1 = c.loop-live-test in
-    empty.ensures.1 (not-true _ if1.true)
+    empty.ensures.1 if1.true
 
 pub opened-c-requires : goal.opened-c-requires
 opened-c-requires c =
     let pre = c.requires in
     let low = c.lowest-s in
     let l = c.loop-live in
-    let q = pre.1 in
-    (pre.0, (q, (low.ensures.below, (l.invariant.1 q.0 q.1).free_live low.result low.ensures.member)))
+    let q = pre.holds_at in
+    record { rows_len = pre.rows_len; holds_at = q; s_bound = low.ensures.below; t = (l.invariant.1 q.0 q.1).free_live low.result low.ensures.member }
 
 pub grow-d-requires : goal.grow-d-requires
 grow-d-requires c =
@@ -44,11 +44,8 @@ grow-d-requires c =
     let a = c.args in
     let low = c.lowest-s in
     let opened = c.opened-c in
-    let q = pre.1 in
-    let h = holding (num a.live) (rows_of 4 256 a.rows.now) q.0 in (
-      pre.0,
-      ((num a.live, near_live h q.1 (opening h.n (view h) low.result) (in_numbers opened.result) (opened.ensures q.0 q.1), q), λ x t. t),
-    )
+    let q = pre.holds_at in
+    let h = holding (num a.live) (rows_of 4 256 a.rows.now) q.0 in record { rows_len = pre.rows_len; by_index = (num a.live, near_live h q.1 (opening h.n (view h) low.result) (in_numbers opened.result) (opened.ensures q.0 q.1), q); within = λ x t. t }
 
 pub returns-then-enough-most : goal.returns-then-enough-most
 returns-then-enough-most c =
@@ -77,7 +74,7 @@ loop-live-smaller-else-enough-most c =
     let low = c.lowest-s in
     let cut = c.less-free in
     let opened = c.opened-c in
-    let q = pre.1 in
+    let q = pre.holds_at in
     hunt_less (holding (num a.live) (rows_of 4 256 a.rows.now) q.0) q.1 (num l.free) (num l.best) low.result
     (num cut.result) (in_numbers opened.result)
     (l.invariant.1 q.0 q.1) low.ensures (opened.ensures q.0 q.1) cut.ensures
@@ -109,7 +106,7 @@ loop-live-smaller-else-most-members c =
     let low = c.lowest-s in
     let cut = c.less-free in
     let opened = c.opened-c in
-    let q = pre.1 in
+    let q = pre.holds_at in
     hunt_less (holding (num a.live) (rows_of 4 256 a.rows.now) q.0) q.1 (num l.free) (num l.best) low.result
     (num cut.result) (in_numbers opened.result)
     (l.invariant.1 q.0 q.1) low.ensures (opened.ensures q.0 q.1) cut.ensures
@@ -141,7 +138,7 @@ loop-live-smaller c =
     let low = c.lowest-s in
     let cut = c.less-free in
     let opened = c.opened-c in
-    let q = pre.1 in
+    let q = pre.holds_at in
     hunt_less (holding (num a.live) (rows_of 4 256 a.rows.now) q.0) q.1 (num l.free) (num l.best) low.result
     (num cut.result) (in_numbers opened.result)
     (l.invariant.1 q.0 q.1) low.ensures (opened.ensures q.0 q.1) cut.ensures
@@ -172,4 +169,4 @@ returns c =
     let if1 = c.loop-live-test in
     λ m k.
     let h = holding (num a.live) (rows_of 4 256 a.rows.now) m in
-    inl (hunt_end h k (num l.best) (subst (λ f. Hunt h k f (num l.best)) (empty.ensures.0 (not-false _ if1.false)) (l.invariant.1 m k)))
+    inl (hunt_end h k (num l.best) (subst (λ f. Hunt h k f (num l.best)) (empty.ensures.0 if1.false) (l.invariant.1 m k)))

@@ -18,13 +18,13 @@ pub lowest-v-requires : goal.lowest-v-requires
 lowest-v-requires c =
     let empty = c.is_empty in
     let if1 = c.loop-rest-test in
-    empty.ensures.1 (not-true _ if1.true)
+    empty.ensures.1 if1.true
 
 pub row-line-requires : goal.row-line-requires
 row-line-requires c =
     let pre = c.requires in
     let low = c.lowest-v in
-    (pre.0, low.ensures.below)
+    (pre.rows_len, low.ensures.below)
 
 pub loop-rest-smaller : goal.loop-rest-smaller
 loop-rest-smaller c =
@@ -36,12 +36,12 @@ loop-rest-smaller c =
     let a = c.args in
     let low = c.lowest-v in
     let put = c.with-set in
-    let q = pre.1.0 in
+    let q = pre.by_index in
     let m = subst (λ x. IsMeet (num l.near) x (num met.result)) line.ensures met.ensures in
     let r = subst (λ x. IsMeet (num l.rest) x (num met2.result)) line.ensures met2.ensures in
     turn_less (holding q.0 (rows_of 4 256 a.rows.now) q.2.0) q.2.1 (in_numbers a.c) (num a.left)
     (in_numbers (record { set = l.set; near = l.near })) (num l.rest) low.result (num put.result) (num met.result) (num met2.result)
-    (l.invariant q.0 q.2.0 q.2.1 pre.1.1 q.1) low.ensures put.ensures m r
+    (l.invariant q.0 q.2.0 q.2.1 pre.within q.1) low.ensures put.ensures m r
 
 pub loop-rest-preserved : goal.loop-rest-preserved
 loop-rest-preserved c =
@@ -70,4 +70,4 @@ returns c =
     let h = holding v (rows_of 4 256 a.rows.now) m in
     let d = in_numbers (record { set = l.set; near = l.near }) in
     turn_end h k (in_numbers a.c) (num a.left) d
-    (subst (λ r. Turn h k (in_numbers a.c) (num a.left) d r) (empty.ensures.0 (not-false _ if1.false)) (l.invariant v m k pre.1.1 w))
+    (subst (λ r. Turn h k (in_numbers a.c) (num a.left) d r) (empty.ensures.0 if1.false) (l.invariant v m k pre.within w))

@@ -18,16 +18,10 @@ grow-requires c =
     let line = c.row in
     let under = c.below in
     let cut = c.less in
-    let q = pre.1.0 in
-    let here = pre.1.1.1 in
+    let q = pre.holds_at in
+    let here = pre.t in
     let h = holding (num a.live) (rows_of 4 256 a.rows.now) q.0 in
-    let m = subst (λ x. IsMeet (num a.live) x (num met.result)) line.ensures met.ensures in (
-      pre.0,
-      (
-        (num a.live, near_lives h q.1 a.s (num met.result) (num under.result) (num cut.result) here m under.ensures cut.ensures, q),
-        left_near h q.1 a.s (num met.result) (num under.result) (num cut.result) here m under.ensures cut.ensures,
-      ),
-    )
+    let m = subst (λ x. IsMeet (num a.live) x (num met.result)) line.ensures met.ensures in record { rows_len = pre.rows_len; by_index = (num a.live, near_lives h q.1 a.s (num met.result) (num under.result) (num cut.result) here m under.ensures cut.ensures, q); within = left_near h q.1 a.s (num met.result) (num under.result) (num cut.result) here m under.ensures cut.ensures }
 
 pub returns : goal.returns
 returns c =
@@ -40,7 +34,7 @@ returns c =
     let under = c.below in
     let cut = c.less in
     let grow = c.grow in
-    let here = pre.1.1.1 in
+    let here = pre.t in
     let near = num met.result in
     let m = subst (λ x. IsMeet (num a.live) x near) line.ensures met.ensures in
     let w = subst (λ x. IsWith x a.s (num put.result)) none.ensures put.ensures in

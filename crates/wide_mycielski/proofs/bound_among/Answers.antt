@@ -8,7 +8,7 @@ use Rattle.wide_mycielski.proofs.bound_among.Goals as goal
 pub clique_among-c-requires : goal.clique_among-c-requires
 clique_among-c-requires c =
     let pre = c.requires in
-    (pre.0, pre.1)
+    record { rows_len = pre.rows_len; holds_at = pre.holds_at }
 
 pub returns-then-enough-b : goal.returns-then-enough-b
 returns-then-enough-b c =
@@ -29,15 +29,9 @@ climb-requires c =
     let a = c.args in
     let found = c.clique_among-c in
     let if1 = c.if-enough-b in
-    let sized = c.size-b in (
-      pre.0,
-      (
-        pre.1,
-        λ m k.
+    let sized = c.size-b in record { rows_len = pre.rows_len; holds_at = pre.holds_at; each_at = λ m k.
             reaches_short (holding (num a.live) (rows_of 4 256 a.rows.now) m) k a.enough (num found.result) (found.ensures m k)
-            (omega (arith, if1.false, sized.ensures)),
-      ),
-    )
+            (omega (arith, if1.false, sized.ensures)) }
 
 pub returns : goal.returns
 returns c =

@@ -21,9 +21,9 @@ loop-b-init c =
     let a = c.args in
     let pre = c.requires in
     let sized2 = c.size-b in (
-      whole.ensures.0,
+      whole.ensures.near_len,
       λ m k.
-          climb_from (holding (num a.live) (rows_of 4 256 a.rows.now) m) k (num a.c) (pre.1.1 m k) whole.ensures.1 sized2.ensures,
+          climb_from (holding (num a.live) (rows_of 4 256 a.rows.now) m) k (num a.c) (pre.each_at m k) whole.ensures.near_after sized2.ensures,
     )
 
 pub returns-then-all-size : goal.returns-then-all-size
@@ -48,19 +48,13 @@ witnesses-ws-requires c =
     let pre = c.requires in
     let l = c.loop-b in
     let a = c.args in
-    let q = pre.1.0 in (
-      pre.0,
-      (
-        l.invariant.0,
-        climb_among (holding (num a.live) (rows_of 4 256 a.rows.now) q.0) q.1 (in_numbers l.set l.near) l.b (l.invariant.1 q.0 q.1),
-      ),
-    )
+    let q = pre.holds_at in record { rows_len = pre.rows_len; near_len = l.invariant.0; among = climb_among (holding (num a.live) (rows_of 4 256 a.rows.now) q.0) q.1 (in_numbers l.set l.near) l.b (l.invariant.1 q.0 q.1) }
 
 pub returns-then-is_empty : goal.returns-then-is_empty
 returns-then-is_empty c =
     let a = c.args in
     let l = c.loop-b in
-    let if1 = c.type_inv.near in
+    let if1 = c.if-all-size in
     let sized = c.size-all in
     let sized3 = c.size in
     let witnesses = c.witnesses-ws in
@@ -87,7 +81,7 @@ pub returns-then-enough-b : goal.returns-then-enough-b
 returns-then-enough-b c =
     let a = c.args in
     let l = c.loop-b in
-    let if1 = c.type_inv.near in
+    let if1 = c.if-all-size in
     let sized = c.size-all in
     let sized3 = c.size in
     let witnesses = c.witnesses-ws in
@@ -121,31 +115,13 @@ extended-set-requires c =
     let l = c.loop-b in
     let a = c.args in
     let low = c.lowest in
-    let if1 = c.type_inv.near in
+    let if1 = c.if-all-size in
     let sized = c.size-all in
     let sized3 = c.size in
     let witnesses = c.witnesses-ws in
-    let q = pre.1.0 in (
-      pre.0,
-      (
-        l.invariant.0,
-        (
-          refl,
-          (
-            q,
-            (
-              climb_among (holding (num a.live) (rows_of 4 256 a.rows.now) q.0) q.1 (in_numbers l.set l.near) l.b (l.invariant.1 q.0 q.1),
-              (
-                low.ensures.below,
-                λ m k.
+    let q = pre.holds_at in record { rows_len = pre.rows_len; len = l.invariant.0; near_value = refl; holds_at = q; among = climb_among (holding (num a.live) (rows_of 4 256 a.rows.now) q.0) q.1 (in_numbers l.set l.near) l.b (l.invariant.1 q.0 q.1); w_bound = low.ensures.below; each_at = λ m k.
                     climb_w (holding (num a.live) (rows_of 4 256 a.rows.now) m) k (num l.set) (part_of (in_numbers l.set l.near)).edge l.b (l.invariant.1 m k)
-                    (omega (arith, if1.false, sized.ensures, sized3.ensures)) (num witnesses.result) (witnesses.ensures m k) low.result low.ensures,
-              ),
-            ),
-          ),
-        ),
-      ),
-    )
+                    (omega (arith, if1.false, sized.ensures, sized3.ensures)) (num witnesses.result) (witnesses.ensures m k) low.result low.ensures }
 
 pub overflow_add-b-in-loop-b : goal.overflow_add-b-in-loop-b
 overflow_add-b-in-loop-b c =
@@ -163,17 +139,17 @@ loop-b-preserved c =
     let extended = c.extended-set in
     let l = c.loop-b in
     let a = c.args in
-    let if1 = c.type_inv.near in
+    let if1 = c.if-all-size in
     let sized = c.size-all in
     let sized3 = c.size in
     let witnesses = c.witnesses-ws in
     let low = c.lowest in (
-      extended.ensures.0,
+      extended.ensures.near_len,
       λ m k.
           rw (add-one l.b)
           (climb_next (holding (num a.live) (rows_of 4 256 a.rows.now) m) k (num l.set) (part_of (in_numbers l.set l.near)).edge l.b (l.invariant.1 m k)
           (omega (arith, if1.false, sized.ensures, sized3.ensures)) (num witnesses.result) (witnesses.ensures m k) low.result low.ensures
-          _ (extended.ensures.1 m k)),
+          _ (extended.ensures.each_at_2 m k)),
     )
 
 pub returns : goal.returns

@@ -20,21 +20,21 @@ use Rattle.wide_mycielski.proofs.extended.Goals as goal
 pub row-of_w-requires : goal.row-of_w-requires
 row-of_w-requires c =
     let pre = c.requires in
-    (pre.0, pre.1.1.1.1.1.0)
+    (pre.rows_len, pre.w_bound)
 
 pub with-next-requires : goal.with-next-requires
 with-next-requires c =
     let pre = c.requires in
-    pre.1.1.1.1.1.0
+    pre.w_bound
 
 pub loop-live-init : goal.loop-live-init
 loop-live-init c =
     let pre = c.requires in
     let a = c.args in
     let put = c.with-next in
-    let same = pre.1.1.0 in (
+    let same = pre.near_value in (
       λ x t. t,
-      ap length same ∙ pre.1.0,
+      ap length same ∙ pre.len,
       λ m k i t.
           let h = holding (num a.live) (rows_of 4 256 a.rows.now) m in
           let old = in_numbers a.set a.old.now in
@@ -46,19 +46,19 @@ pub lowest-v-requires : goal.lowest-v-requires
 lowest-v-requires c =
     let empty = c.is_empty in
     let if1 = c.loop-live-test in
-    empty.ensures.1 (not-true _ if1.true)
+    empty.ensures.1 if1.true
 
 pub row-of_v-requires : goal.row-of_v-requires
 row-of_v-requires c =
     let pre = c.requires in
     let low = c.lowest-v in
-    (pre.1.0, low.ensures.below)
+    (pre.len, low.ensures.below)
 
 pub serving-requires : goal.serving-requires
 serving-requires c =
     let pre = c.requires in
     let low = c.lowest-v in
-    let line2 = c.row-of_v in record { rows_len = pre.0; within = λ x t. pre.1.1.1.1.0.ends low.result x (subst (λ s. T (has s x)) line2.ensures t) }
+    let line2 = c.row-of_v in record { rows_len = pre.rows_len; within = λ x t. pre.among.ends low.result x (subst (λ s. T (has s x)) line2.ensures t) }
 
 pub lowest-u-requires : goal.lowest-u-requires
 lowest-u-requires c =
@@ -70,13 +70,13 @@ lowest-u-requires c =
     let met = c.meet in
     let line = c.row-of_w in
     let line2 = c.row-of_v in
-    let q = pre.1.1.1.0 in
-    let p = pre.1.1.1.1 in
+    let q = pre.holds_at in
+    let p = pre.among in
     let v = low.result in
     let here = l.invariant.0 v low.ensures.member in
     let h = holding (num a.live) (rows_of 4 256 a.rows.now) q.0 in
     let m = subst (λ x. IsMeet (num serving.result) x (num met.result)) line.ensures met.ensures in
-    offered h q.1 (in_numbers a.set a.old.now) p.0 a.w (p.1.1 q.0 q.1) v (num serving.result) (num met.result)
+    offered h q.1 (in_numbers a.set a.old.now) pre.among a.w (pre.each_at q.0 q.1) v (num serving.result) (num met.result)
     (λ x. serving.ensures q.0 q.1 x ∙ ap (λ (z : ℕ). near_all h.n (view h) (has z) x) line2.ensures) m here
 
 pub with-next-requires-in-loop-live : goal.with-next-requires-in-loop-live
@@ -87,7 +87,7 @@ with-next-requires-in-loop-live c =
 pub with-requires : goal.with-requires
 with-requires c =
     let pre = c.requires in
-    pre.1.1.1.1.1.0
+    pre.w_bound
 
 pub tie-requires : goal.tie-requires
 tie-requires c =
@@ -123,20 +123,20 @@ loop-live-preserved c =
     let m = subst (λ x. IsMeet (num serving.result) x (num met.result)) line.ensures met.ensures in
     let ys = subst (λ x. IsWith x a.w (num with3.result)) line2.ensures with3.ensures in (
       within_again (num a.set) (num l.left) v (num out.result) l.invariant.0 low.ensures out.ensures,
-      tie.ensures.0,
+      tie.ensures.near_len_2,
       λ n k i t.
           let h = holding (num a.live) (rows_of 4 256 a.rows.now) n in
           extending_again h k (in_numbers a.set a.old.now) i a.w t (in_numbers l.next l.near) (num l.left) v (num serving.result)
           (num met.result) low2.result (num with3.result) (num put2.result) _ (num out.result) (l.invariant.2 n k i t) low.ensures
           (λ x. serving.ensures n k x ∙ ap (λ (z : ℕ). near_all h.n (view h) (has z) x) line2.ensures) m low2.ensures ys
-          put2.ensures tie.ensures.1 out.ensures,
+          put2.ensures tie.ensures.ties out.ensures,
     )
 
 pub shape_of-near : goal.shape_of-near
 shape_of-near c =
     let l = c.loop-live in
     let pre = c.requires in
-    l.invariant.1 ∙ sym (ap length pre.1.1.0 ∙ pre.1.0)
+    l.invariant.1 ∙ sym (ap length pre.near_value ∙ pre.len)
 
 pub returns : goal.returns
 returns c =
@@ -145,13 +145,13 @@ returns c =
     let a = c.args in
     let empty = c.is_empty in
     let if1 = c.loop-live-test in
-    let p = pre.1.1.1.1 in record {
+    let p = pre.among in record {
       near_len = l.invariant.1;
       each_at_2 = λ m k.
           let h = holding (num a.live) (rows_of 4 256 a.rows.now) m in
           let old = in_numbers a.set a.old.now in
-          let t = p.1.1 m k in
-          extending_end h k old p.0 a.w t (in_numbers l.next l.near)
-          (subst (λ r. Extending h k old p.0 a.w t (in_numbers l.next l.near) r) (empty.ensures.0 (not-false _ if1.false))
-          (l.invariant.2 m k p.0 t));
+          let t = pre.each_at m k in
+          extending_end h k old pre.among a.w t (in_numbers l.next l.near)
+          (subst (λ r. Extending h k old pre.among a.w t (in_numbers l.next l.near) r) (empty.ensures.0 if1.false)
+          (l.invariant.2 m k pre.among t));
     }

@@ -21,7 +21,7 @@ pub lowest-x-requires : goal.lowest-x-requires
 lowest-x-requires c =
     let empty = c.is_empty in
     let if1 = c.loop-left-test in
-    empty.ensures.1 (not-true _ if1.true)
+    empty.ensures.1 if1.true
 
 pub row-requires : goal.row-requires
 row-requires c =
@@ -62,4 +62,4 @@ returns c =
     λ live i m k.
     let h = holding live (rows_of 4 256 a.rows.now) m in
     reached_end h k (num a.s) (num l.r)
-    (subst (λ r. Reached h k (num a.s) (num l.r) r) (empty.ensures.0 (not-false _ if1.false)) (l.invariant live m k i))
+    (subst (λ r. Reached h k (num a.s) (num l.r) r) (empty.ensures.0 if1.false) (l.invariant live m k i))

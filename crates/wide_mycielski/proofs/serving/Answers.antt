@@ -18,13 +18,13 @@ pub lowest-y-requires : goal.lowest-y-requires
 lowest-y-requires c =
     let empty = c.is_empty in
     let if1 = c.loop-left-test in
-    empty.ensures.1 (not-true _ if1.true)
+    empty.ensures.1 if1.true
 
 pub row-requires : goal.row-requires
 row-requires c =
     let pre = c.requires in
     let low = c.lowest-y in
-    (pre.0, low.ensures.below)
+    (pre.rows_len, low.ensures.below)
 
 pub without-left-requires : goal.without-left-requires
 without-left-requires c =
@@ -60,4 +60,4 @@ returns c =
     λ m k.
     let h = holding (num a.live) (rows_of 4 256 a.rows.now) m in
     serving_end h k (num a.near) (num l.s)
-    (subst (λ r. Serving h k (num a.near) (num l.s) r) (empty.ensures.0 (not-false _ if1.false)) (l.invariant m k pre.1))
+    (subst (λ r. Serving h k (num a.near) (num l.s) r) (empty.ensures.0 if1.false) (l.invariant m k pre.within))

@@ -20,7 +20,7 @@ pub lowest-v-requires : goal.lowest-v-requires
 lowest-v-requires c =
     let empty = c.is_empty in
     let if1 = c.loop-c-test in
-    empty.ensures.1 (not-true _ if1.true)
+    empty.ensures.1 if1.true
 
 pub without-requires : goal.without-requires
 without-requires c =
@@ -70,4 +70,4 @@ returns c =
     let l = c.loop-c in
     let empty = c.is_empty in
     let if1 = c.loop-c-test in
-    let done = subst (λ r. Joining 256 (num a.c) (rows_of 4 256 l.near) r) (empty.ensures.0 (not-false _ if1.false)) l.invariant.1 in record { near_len = l.invariant.0; near_after = joining_end (num a.c) (rows_of 4 256 l.near) done }
+    let done = subst (λ r. Joining 256 (num a.c) (rows_of 4 256 l.near) r) (empty.ensures.0 if1.false) l.invariant.1 in record { near_len = l.invariant.0; near_after = joining_end (num a.c) (rows_of 4 256 l.near) done }

@@ -27,7 +27,7 @@ pub lowest-v-requires : goal.lowest-v-requires
 lowest-v-requires c =
     let empty = c.is_empty in
     let if1 = c.loop-live-test in
-    empty.ensures.1 (not-true _ if1.true)
+    empty.ensures.1 if1.true
 
 pub row-requires : goal.row-requires
 row-requires c =
@@ -39,12 +39,12 @@ serving-s-requires c =
     let pre = c.requires in
     let low = c.lowest-v in
     let line = c.row in
-    (pre.0, λ x t. pre.1.1.ends low.result x (subst (λ s. T (has s x)) line.ensures t))
+    record { rows_len = pre.rows_len; within = λ x t. pre.among.ends low.result x (subst (λ s. T (has s x)) line.ensures t) }
 
 pub reached-requires : goal.reached-requires
 reached-requires c =
     let pre = c.requires in
-    pre.0
+    pre.rows_len
 
 pub returns-then-is_empty : goal.returns-then-is_empty
 returns-then-is_empty c =
@@ -62,7 +62,7 @@ returns-then-is_empty c =
     let v = low.result in
     let left = num l.left in
     let next = left - bit_and left (2 ^ v) in
-    let i = pre.1.1.verts in
+    let i = pre.among.verts in
     let sv = num serving.result in
     λ m k x.
     let h = holding (num a.live) (rows_of 4 256 a.rows.now) m in
@@ -111,9 +111,9 @@ returns c =
     let l = c.loop-live in
     let empty = c.is_empty in
     let if1 = c.loop-live-test in
-    let i = pre.1.1.verts in
+    let i = pre.among.verts in
     λ m k.
     let h = holding (num a.live) (rows_of 4 256 a.rows.now) m in
     let e : ℕ → ℕ → Bool = λ x y. has (get_or (rows_of 4 256 a.near.now) x 0) y in
     witness_end h k (num a.set) e i (num a.live) (λ x t. t) (live_among h k (num a.set) e i) (num l.ws)
-    (subst (λ r. Witness h k (num a.set) e i (num a.live) (num l.ws) r) (empty.ensures.0 (not-false _ if1.false)) (l.invariant m k i))
+    (subst (λ r. Witness h k (num a.set) e i (num a.live) (num l.ws) r) (empty.ensures.0 if1.false) (l.invariant m k i))

@@ -16,7 +16,7 @@ pub lowest-v-requires : goal.lowest-v-requires
 lowest-v-requires c =
     let empty = c.is_empty in
     let if1 = c.loop-near-test in
-    empty.ensures.1 (not-true _ if1.true)
+    empty.ensures.1 if1.true
 
 pub without-left-requires : goal.without-left-requires
 without-left-requires c =
@@ -86,5 +86,5 @@ returns c =
     let empty = c.is_empty in
     let if1 = c.loop-near-test in
     sym (over_none 256 (lead (shared_at 256 (rows_of 4 256 a.rows.now) (num a.near)) a.u) l.best (num l.left)
-    (empty.ensures.0 (not-false _ if1.false)))
+    (empty.ensures.0 if1.false))
     ∙ l.invariant

@@ -21,7 +21,7 @@ pub lowest-u-requires : goal.lowest-u-requires
 lowest-u-requires c =
     let empty = c.is_empty in
     let if1 = c.loop-live-test in
-    empty.ensures.1 (not-true _ if1.true)
+    empty.ensures.1 if1.true
 
 pub without-left-requires : goal.without-left-requires
 without-left-requires c =
@@ -32,12 +32,12 @@ pub row-requires : goal.row-requires
 row-requires c =
     let pre = c.requires in
     let low = c.lowest-u in
-    (pre.0, low.ensures.below)
+    (pre.rows_len, low.ensures.below)
 
 pub by_pairs-best-requires : goal.by_pairs-best-requires
 by_pairs-best-requires c =
     let pre = c.requires in
-    pre.0
+    pre.rows_len
 
 pub loop-live-smaller-then-best-size : goal.loop-live-smaller-then-best-size
 loop-live-smaller-then-best-size c =
@@ -94,7 +94,7 @@ returns-then-best-eq0 c =
     let if3 = c.if-best-eq0 in
     λ m k.
     leads_none (sharing 256 (rows_of 4 256 a.rows.now) (num a.live)) l.best _
-    (scanned_all (holding (num a.live) (rows_of 4 256 a.rows.now) m) k l.best (num l.left) (empty.ensures.0 (not-false _ if1.false)) l.invariant)
+    (scanned_all (holding (num a.live) (rows_of 4 256 a.rows.now) m) k l.best (num l.left) (empty.ensures.0 if1.false) l.invariant)
     if3.true
 
 pub returns : goal.returns
@@ -106,5 +106,5 @@ returns c =
     let if3 = c.if-best-eq0 in
     λ m k.
     leads_some (sharing 256 (rows_of 4 256 a.rows.now) (num a.live)) l.best _
-    (scanned_all (holding (num a.live) (rows_of 4 256 a.rows.now) m) k l.best (num l.left) (empty.ensures.0 (not-false _ if1.false)) l.invariant)
+    (scanned_all (holding (num a.live) (rows_of 4 256 a.rows.now) m) k l.best (num l.left) (empty.ensures.0 if1.false) l.invariant)
     if3.false
