@@ -1,4 +1,4 @@
-// The archive for C: each call of `capi` under its own name, with the same promise. A library exports nothing, so what C links is this static library.
+// What C links: a static library that exports each call of `capi` under its own name, with the same promise.
 #![tactic(auto)]
 
 ghost use Rattle.std.specs.Prelude.{true, false};
