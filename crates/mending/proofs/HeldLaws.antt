@@ -2,7 +2,7 @@
 use Prim.Native.Nat.{ℕ, suc, ◌+◌, ◌-◌, ◌≤◌, ◌<◌}
 use mathlib.Core.Path.{◌≡◌, refl, sym, ap, subst, fun_ext, ◌∙◌}
 use mathlib.Core.Logic.{◌≢◌, ⊎_elim}
-use mathlib.Core.List.{List, [], ◌∷◌, ◌++◌, map, map_append, append-nil}
+use mathlib.Core.List.{List, [], ◌∷◌, ◌++◌, map, map-append, append-nil}
 use mathlib.Core.Bool.{Bool, true, false, cond, not, ◌&&◌, ◌||◌}
 use native.Mathlib.Numerals.{add-one}
 use native.Mathlib.Omega.{arith}
@@ -198,7 +198,7 @@ module _ (cap n : ℕ) (g : Gone) (f : FitsAt cap n g) where
           mates = empty_is i;
           groups = (ap (λ (k : ℕ). map has (take k (set g.sets g.many g.mates))) (add-one g.many)
               ∙ ap (map has) (take-suc-set g.sets g.many g.mates (omega (arith, f.long, stays_room)))
-              ∙ map_append has (take g.many g.sets) (g.mates ∷ [])
+              ∙ map-append has (take g.many g.sets) (g.mates ∷ [])
               ∙ ap (λ (b : Bool). map has (take g.many g.sets) ++ put b (has g.mates) []) (sym some_any)) i;
         }
 

@@ -1,6 +1,6 @@
 -- A search of the code on its way, read as the described one.
 --
---   state_of n s        : the described search's state that s holds, for n entries
+--   state_of n s       : the described search's state that s holds, for n entries
 --   Fair n s           : s's number of groups is that of its best division, and no more nodes are entered than the budget has
 --   Starts n m r       : r is the state before the first node, with the budget m
 --   Holds at m sets c  : the first `at` places of c are a placing into m groups, and `sets` are its groups. Those from m on are empty

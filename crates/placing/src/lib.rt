@@ -23,7 +23,7 @@ pub enum Answer {
 
 // A search on its way: the colours of the best division, its number of groups, the nodes entered and the budget of nodes; out says that it would have
 // had to enter more.
-#[derive(Drop)]
+#[derive(Clone, Copy)]
 struct State {
     pub best: [u8; 64],
     pub k: usize,

@@ -79,6 +79,7 @@ roomy_shape NoDigit k c a = tt
 roomy_shape NoSpace k c a = tt
 roomy_shape NoFeed k c a = tt
 roomy_shape Room k c a = absurd a
+roomy_shape Repeat k c a = elim a [ ]
 
 abbrev Enough : ListStep → Type 0
 Enough (StopListAt p) = T (of_shape p.fault)

@@ -4,12 +4,11 @@ use mathlib.Core.Path.{◌≡◌, ap, ◌∙◌}
 use mathlib.Core.List.{List}
 use mathlib.Core.Option.{some}
 use Prim.Native.Nat.{ℕ, suc, ◌+◌, ◌*◌, ◌<◌}
-use native.Mathlib.Omega.{arith}
 use mathlib.Core.Bool.{true, false}
 use lib.ListN.{length}
 use Rattle.sets.specs.Set.{IsWithout}
 use Rattle.wide.specs.Words.{num}
-use Rattle.wide.specs.Form.{Form, Fits}
+use Rattle.wide.specs.Form.{Fits}
 use Rattle.wide.specs.declared.Set.{Set}
 use Rattle.graphs.specs.Graph.{pair, merge, separate}
 use Rattle.graphs.specs.Held.{view}

@@ -14,7 +14,7 @@ use Rattle.wide.specs.Words.{num}
 use Rattle.wide.specs.Form.{Form, held}
 use Rattle.wide.specs.declared.Set.{Set}
 use Rattle.wide.proofs.FormLaws.{form_long}
-use Rattle.graphs.specs.Graph.{missing, merge, separate}
+use Rattle.graphs.specs.Graph.{merge, separate}
 use Rattle.graphs.specs.Held.{HeldAt, view}
 use Rattle.graphs.specs.Acts.{PairAt, BecomesAt, Renamed}
 use Rattle.graphs.specs.declared.Node.{Node}

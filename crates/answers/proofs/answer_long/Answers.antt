@@ -8,5 +8,5 @@ use Rattle.answers.proofs.answer_long.Goals as goal
 
 pub returns : goal.returns
 returns c plain s h =
-    subst (λ (x : List ℕ). Writes x c.args.out.now c.fit.result c.fit.new.1.0) (sym (printed_long plain s h))
+    subst (λ (x : List ℕ). Writes x c.args.out.now c.fit.result c.fit.new.out) (sym (printed_long plain s h))
     (c.fit.ensures _ (subst (λ (n : ℕ). IsText (refused_text n 0 0) c.refused.result) c.number.ensures c.refused.ensures))

@@ -32,5 +32,5 @@ returns-then-out-n c x t = full x c.args.out.now (omega (arith, t.long, c.if-out
 pub returns : goal.returns
 returns c x t =
     let o = c.args.out.now in
-    wrote x o c.put_word.new.0 c.put_word.result (omega (arith, t.long, c.if-out-n.false))
-    (subst (λ (y : List ℕ). Put o 0 y c.put_word.new.0 c.put_word.result) t.is c.put_word.ensures)
+    wrote x o c.put_word.new.out c.put_word.result (omega (arith, t.long, c.if-out-n.false))
+    (subst (λ (y : List ℕ). Put o 0 y c.put_word.new.out c.put_word.result) t.is c.put_word.ensures)

@@ -16,10 +16,10 @@ use Rattle.answers.proofs.mended.Goals.{After-mend_sheet-a}
 
 -- what is promised of the answer that mending gave
 promised : (c : After-mend_sheet-a) (a : Mended) → c.mend_sheet-a.result ≡ a
-    → let g = c.args in MendPromise g.plain g.list.now g.sheet.now g.out.now a c.mend_sheet-a.new.1.1.0
+    → let g = c.args in MendPromise g.plain g.list.now g.sheet.now g.out.now a c.mend_sheet-a.new.out
 promised c a e =
     let g = c.args in
-    subst (λ (x : Mended). MendPromise g.plain g.list.now g.sheet.now g.out.now x c.mend_sheet-a.new.1.1.0) e c.mend_sheet-a.ensures
+    subst (λ (x : Mended). MendPromise g.plain g.list.now g.sheet.now g.out.now x c.mend_sheet-a.new.out) e c.mend_sheet-a.ensures
 
 pub refused-requires : goal.refused-requires
 refused-requires c =
@@ -42,8 +42,8 @@ returns-in-Unread c =
     let g = c.args in
     let w = mended_unread g.plain g.list.now g.sheet.now g.out.now _ _ _ _
     (promised (goal.at.returns-in-Unread c).After-mend_sheet-a _ c.in-Unread.is) in
-    subst (λ (x : List ℕ). Writes x g.out.now c.answer.result c.answer.new.1.0) (sym w.1)
-    (subst (λ (o : List ℕ). Writes (printed g.plain g.list.now) o c.answer.result c.answer.new.1.0) w.0 c.answer.ensures)
+    subst (λ (x : List ℕ). Writes x g.out.now c.answer.result c.answer.new.out) (sym w.1)
+    (subst (λ (o : List ℕ). Writes (printed g.plain g.list.now) o c.answer.result c.answer.new.out) w.0 c.answer.ensures)
 
 pub returns-in-Refused : goal.returns-in-Refused
 returns-in-Refused c =
@@ -57,8 +57,8 @@ returns-in-Refused c =
     let y = subst (λ (q : Refusal). IsText (refused_text (number_of q) (told q k).line 0) t) c.refusal_of-r.ensures
     (subst (λ (i : ℕ). IsText (refused_text (number_of q) i 0) t) c.line.ensures
     (subst (λ (i : ℕ). IsText (refused_text i c.line.result 0) t) c.number.ensures c.refused.ensures)) in
-    subst (λ (x : List ℕ). Writes x g.out.now c.fit.result c.fit.new.1.0) (sym w.1)
-    (subst (λ (o : List ℕ). Writes x o c.fit.result c.fit.new.1.0) w.0 (c.fit.ensures x y))
+    subst (λ (x : List ℕ). Writes x g.out.now c.fit.result c.fit.new.out) (sym w.1)
+    (subst (λ (o : List ℕ). Writes x o c.fit.result c.fit.new.out) w.0 (c.fit.ensures x y))
 
 pub returns-in-Full : goal.returns-in-Full
 returns-in-Full c =

@@ -9,13 +9,13 @@ use Rattle.answers.proofs.mended_long.Goals as goal
 pub returns-in-Read : goal.returns-in-Read
 returns-in-Read c s h =
     let a = c.args in
-    subst (λ (x : List ℕ). Writes x a.out.now c.answer_long.result c.answer_long.new.0)
+    subst (λ (x : List ℕ). Writes x a.out.now c.answer_long.result c.answer_long.new.out)
     (sym (long_read a.plain a.list.now s _ (ap (λ x. x.answer) (sym c.gather-found.ensures) ∙ c.in-Read.is) h))
     (c.answer_long.ensures a.plain s h)
 
 pub returns-in-Refused : goal.returns-in-Refused
 returns-in-Refused c s h =
     let a = c.args in
-    subst (λ (x : List ℕ). Writes x a.out.now c.answer.result c.answer.new.1.0)
+    subst (λ (x : List ℕ). Writes x a.out.now c.answer.result c.answer.new.out)
     (sym (long_unread a.plain a.list.now s _ _ _ (ap (λ x. x.answer) (sym c.gather-found.ensures) ∙ c.in-Refused.is)))
     c.answer.ensures

@@ -2,12 +2,11 @@
 -- Assumes nothing.
 use Prim.Native.Nat.{◌-◌}
 use mathlib.Core.Path.{sym, ap, ◌∙◌}
-use mathlib.Core.Logic.{⊎_elim}
 use native.Mathlib.Omega.{arith}
 use Rattle.mending.specs.declared.Gone.{Gone}
 use Rattle.mending.proofs.Turns.{along_start, out_whole, out_short, out_halts, out_stops, Turned, turned_groups, turned_size, turned_member, turned_along}
 use Rattle.mending.proofs.go_through.Goals as goal
-use Rattle.mending.proofs.go_through.Goals.{Joined-line_step}
+use Rattle.mending.proofs.go_through.Goals.{Joined-line_step, in-Groups, in-Size, in-Member}
 
 turned : (c : Joined-line_step) →
     let a = c.args in
@@ -19,15 +18,14 @@ turned c =
     let e = c.line_end-e in
     let l = c.if-sheet-e.false in
     let st = sym c.line_step.ensures in
-    ⊎_elim
-    (λ w. turned_groups 64 a.n a.rows.now a.sheet.now c.loop-at.at e.result c.loop-at.line c.loop-at.c c.loop-at.g e.ensures.0 l
-    c.loop-at.invariant.3.fits w.1.given.0.0 (st ∙ w.1.given.1) _ _ w.3 w.4)
-    (λ v. ⊎_elim
-    (λ w. turned_size 64 a.n a.rows.now a.sheet.now c.loop-at.at e.result c.loop-at.line c.loop-at.c c.loop-at.g e.ensures.0 l
-    w.1.given.0.0 (st ∙ w.1.given.1) _ w.3.ensures _ _ w.4 w.5)
-    (λ w. turned_member 64 a.n a.rows.now a.sheet.now c.loop-at.at e.result c.loop-at.line c.loop-at.c c.loop-at.g e.ensures.0 l
-    w.1.given.0.0 w.1.given.0.1.0 (st ∙ w.1.given.1) _ w.3.ensures _ _ w.4 w.5) v)
-    c.match-line_step.branch
+    elim c.match-line_step.branch [
+      | in-Groups w ↦ turned_groups 64 a.n a.rows.now a.sheet.now c.loop-at.at e.result c.loop-at.line c.loop-at.c c.loop-at.g e.ensures.0 l
+    c.loop-at.invariant.3.fits w.in-Groups.d (st ∙ w.in-Groups.is) _ _ w.c-is w.g-is
+      | in-Size w ↦ turned_size 64 a.n a.rows.now a.sheet.now c.loop-at.at e.result c.loop-at.line c.loop-at.c c.loop-at.g e.ensures.0 l
+    w.in-Size.d (st ∙ w.in-Size.is) _ w.closed-g.ensures _ _ w.c-is w.g-is
+      | in-Member w ↦ turned_member 64 a.n a.rows.now a.sheet.now c.loop-at.at e.result c.loop-at.line c.loop-at.c c.loop-at.g e.ensures.0 l
+    w.in-Member.d w.in-Member.u (st ∙ w.in-Member.is) _ w.with_member-g.ensures _ _ w.c-is w.g-is
+    ]
 
 pub loop-at-init : goal.loop-at-init
 loop-at-init c =

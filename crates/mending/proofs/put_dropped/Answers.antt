@@ -2,7 +2,6 @@
 -- Assumes nothing.
 use Prim.Native.Nat.{ℕ, ◌+◌, ◌-◌}
 use mathlib.Core.Path.{sym, ap, subst, ◌∙◌}
-use mathlib.Core.Logic.{⊎_elim}
 use mathlib.Core.Bool.{Bool}
 use native.Mathlib.Omega.{arith}
 use lib.ListN.{drop}
@@ -16,7 +15,7 @@ use Rattle.mending.specs.Held.{dropped_at, dropped_of}
 use Rattle.mending.proofs.Turns.{ends_drops, halts_drops, turn_drops}
 use Rattle.mending.proofs.Reports.{drops_groups, drops_size, drops_room, drops_member}
 use Rattle.mending.proofs.put_dropped.Goals as goal
-use Rattle.mending.proofs.put_dropped.Goals.{Joined-line_step}
+use Rattle.mending.proofs.put_dropped.Goals.{Joined-line_step, in-Groups, in-Size, in-Member}
 
 turned : (c : Joined-line_step) →
     let a = c.args in
@@ -28,16 +27,15 @@ turned c =
     let e = c.line_end-e in
     let l = c.if-sheet-e.false in
     let st = sym c.line_step.ensures in
-    ⊎_elim
-    (λ w. drops_groups a.n a.sheet.now c.loop-at.at e.result c.loop-at.line c.loop-at.c c.loop-at.seen e.ensures.0 l
-    a.out.now _ c.loop-at.out c.loop-at.a c.loop-at.invariant.2 w.1.given.0.0 (st ∙ w.1.given.1) _ _ _ _ w.3 w.4 w.5 w.6)
-    (λ v. ⊎_elim
-    (λ w. drops_size a.n a.sheet.now c.loop-at.at e.result c.loop-at.line c.loop-at.c c.loop-at.seen e.ensures.0 l
-    a.out.now _ c.loop-at.out c.loop-at.a c.loop-at.invariant.2 w.1.given.0.0 (st ∙ w.1.given.1) _ _ _ _ w.3 w.4 w.5 w.6)
-    (λ w. drops_member a.n a.sheet.now c.loop-at.at e.result c.loop-at.line c.loop-at.c c.loop-at.seen e.ensures.0 l
-    a.out.now _ c.loop-at.out c.loop-at.a c.loop-at.invariant.2 w.1.given.0.0 w.1.given.0.1.0 (st ∙ w.1.given.1)
-    _ _ w.4.ensures _ w.7.ensures _ _ _ _ w.8 w.9 w.10 w.11) v)
-    c.match-line_step.branch
+    elim c.match-line_step.branch [
+      | in-Groups w ↦ drops_groups a.n a.sheet.now c.loop-at.at e.result c.loop-at.line c.loop-at.c c.loop-at.seen e.ensures.0 l
+    a.out.now _ c.loop-at.out c.loop-at.a c.loop-at.invariant.2 w.in-Groups.d (st ∙ w.in-Groups.is) _ _ _ _ w.out-is w.a-is w.c-is w.seen-is
+      | in-Size w ↦ drops_size a.n a.sheet.now c.loop-at.at e.result c.loop-at.line c.loop-at.c c.loop-at.seen e.ensures.0 l
+    a.out.now _ c.loop-at.out c.loop-at.a c.loop-at.invariant.2 w.in-Size.d (st ∙ w.in-Size.is) _ _ _ _ w.out-is w.a-is w.c-is w.seen-is
+      | in-Member w ↦ drops_member a.n a.sheet.now c.loop-at.at e.result c.loop-at.line c.loop-at.c c.loop-at.seen e.ensures.0 l
+    a.out.now _ c.loop-at.out c.loop-at.a c.loop-at.invariant.2 w.in-Member.d w.in-Member.u (st ∙ w.in-Member.is)
+    _ _ w.put_drop-a.ensures _ w.sees-seen.ensures _ _ _ _ w.out-is w.a-is w.c-is w.seen-is
+    ]
 
 pub loop-at-init : goal.loop-at-init
 loop-at-init c =

@@ -86,5 +86,5 @@ returns c =
     let p = put_text (take c.args.n o.result.colours) (members (has e.result) 64) in
     answered_written c.args.n (matrix c.args.rows.now) c.args.sheet.now c.requires.2 c.args.g c.requires.3 e.result e.ensures o.result o.ensures
     c.args.out.now _ _ (omega (arith, z, c.if-out-g.false))
-    (subst (λ (x : List ℕ). Put c.args.out.now 0 (d ++ (p ++ x)) c.put_output-whole.new.0 c.put_output-whole.result) t.ensures.2
+    (subst (λ (x : List ℕ). Put c.args.out.now 0 (d ++ (p ++ x)) c.put_output-whole.new.out c.put_output-whole.result) t.ensures.2
     c.put_output-whole.ensures)

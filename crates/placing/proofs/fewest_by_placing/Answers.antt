@@ -1,22 +1,24 @@
 -- `placing::fewest_by_placing` meets its contract. Assumes nothing.
 use mathlib.Core.Path.{◌≡◌, refl, subst}
+use mathlib.Core.List.{List}
+use Prim.Native.Nat.{ℕ}
 use lib.ListN.{length}
 use Rattle.clashes.specs.Matrix.{Judged}
 use Rattle.clashes.specs.Room.{OpenUpTo}
 use Rattle.clashes.specs.declared.Verdict.{Verdict}
 use Rattle.placing.proofs.Meets.{start_ready, promised_told}
 use Rattle.placing.proofs.fewest_by_placing.Goals as goal
-use Rattle.placing.proofs.fewest_by_placing.Goals.{After-validity-v, Else-colours-n}
+use Rattle.placing.proofs.fewest_by_placing.Goals.{Else-colours-n}
 
 -- the verdict is what validity promised
-judged : (c : After-validity-v) {a : Verdict} → c.validity-v.result ≡ a → Judged c.args.rows.now a
-judged c e = subst (Judged c.args.rows.now) e c.validity-v.ensures
+judged : (rows : List ℕ) {v a : Verdict} → Judged rows v → v ≡ a → Judged rows a
+judged rows h e = subst (Judged rows) e h
 
 -- ---- the search starts
 
 -- there is no cause for refusals 1 to 5
 opened : (c : Else-colours-n) → let a = c.args in OpenUpTo 64 a.rows.now (length a.colours.now)
-opened c = record { sound = judged c c.in-Valid.is; bytes = c.if-colours-n.false }
+opened c = record { sound = judged _ c.validity-v.ensures c.in-Valid.is; bytes = c.if-colours-n.false }
 
 -- ---- or is refused: 5, then 1 to 4
 
@@ -38,16 +40,16 @@ returns-else-colours-n c =
     c.enter-s.ensures.0 _ _ c.told.ensures
 
 pub returns-then-colours-n : goal.returns-then-colours-n
-returns-then-colours-n c = (record { sound = judged (goal.at.returns-then-colours-n c).After-validity-v c.in-Valid.is; bytes = c.if-colours-n.true }, refl)
+returns-then-colours-n c = (record { sound = judged _ c.validity-v.ensures c.in-Valid.is; bytes = c.if-colours-n.true }, refl)
 
 pub returns-in-Many : goal.returns-in-Many
-returns-in-Many c = (judged (goal.at.returns-in-Many c).After-validity-v c.in-Many.is, refl)
+returns-in-Many c = (judged _ c.validity-v.ensures c.in-Many.is, refl)
 
 pub returns-in-Stray : goal.returns-in-Stray
-returns-in-Stray c = (judged (goal.at.returns-in-Stray c).After-validity-v c.in-Stray.is, refl)
+returns-in-Stray c = (judged _ c.validity-v.ensures c.in-Stray.is, refl)
 
 pub returns-in-Itself : goal.returns-in-Itself
-returns-in-Itself c = (judged (goal.at.returns-in-Itself c).After-validity-v c.in-Itself.is, refl)
+returns-in-Itself c = (judged _ c.validity-v.ensures c.in-Itself.is, refl)
 
 pub returns-in-OneSided : goal.returns-in-OneSided
-returns-in-OneSided c = (judged (goal.at.returns-in-OneSided c).After-validity-v c.in-OneSided.is, refl)
+returns-in-OneSided c = (judged _ c.validity-v.ensures c.in-OneSided.is, refl)

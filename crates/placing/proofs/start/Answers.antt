@@ -1,20 +1,15 @@
 -- `placing::start` meets its contract. Where i entries are written, they are 0 to i - 1. Assumes nothing.
 use mathlib.Core.Path.{◌≡◌, refl, sym, ap, ◌∙◌, subst}
 use mathlib.Core.List.{List, [], ◌∷◌, ◌++◌}
-use Prim.Native.Nat.{ℕ, ◌+◌, ◌-◌, ◌≤◌}
+use Prim.Native.Nat.{ℕ}
 use native.Mathlib.Numerals.{add-one}
 use native.Mathlib.Omega.{arith}
-use lib.ListN.{length, take, set, length-set}
+use lib.ListN.{take, set, length-set}
 use lib.Seq.{take-suc-set}
 use Rattle.sets.proofs.ListLaws.{table_suc}
 use Rattle.clashes.specs.Divisions.{groups, alone}
 use Rattle.clashes.proofs.DivisionLaws.{alone_groups}
 use Rattle.placing.proofs.start.Goals as goal
-
-record Written (n i : ℕ) (best : List ℕ) : Type 0 where
-  most : i ≤ n
-  long : length best ≡ 64
-  are : take i best ≡ alone i
 
 pub loop-i-init : goal.loop-i-init
 loop-i-init c = record { most = omega arith; long = refl; are = refl }

@@ -2,13 +2,13 @@
 use mathlib.Core.Path.{◌≡◌, refl, sym, ap, ◌∙◌}
 use mathlib.Core.Bool.{true, false}
 use mathlib.Core.List.{List, [], ◌∷◌, ◌++◌}
-use Prim.Native.Nat.{ℕ, zero, suc, ◌+◌, ◌-◌, ◌≤◌, ◌<◌}
+use Prim.Native.Nat.{ℕ, zero, suc, ◌≤◌, ◌<◌}
 use native.Mathlib.Nat.{not-suc-le-zero, le_of_suc-le-suc}
 use native.Mathlib.Numerals.{add-one}
 use native.Mathlib.Omega.{arith}
-use lib.ListN.{length, take, drop, set, get_or, length-map, length-append, length-take, length-drop}
+use lib.ListN.{length, take, drop, set, get_or, length-append, length-take, length-drop}
 use Rattle.placing.proofs.told.Goals as goal
-use Rattle.placing.proofs.told.Goals.{After-best-1, At-loop-i}
+use Rattle.placing.proofs.told.Goals.{At-loop-i}
 
 -- one more element is copied
 copy_step : (b o : List ℕ) (i : ℕ) → i < length b → i < length o → set (take i b ++ drop i o) i (get_or b i 0) ≡ take (suc i) b ++ drop (suc i) o
@@ -21,15 +21,12 @@ copy_step (x ∷ b) (y ∷ o) (suc i) p q = ap (λ (l : List ℕ). x ∷ l) (cop
 copy_length : (b o : List ℕ) (i : ℕ) → i ≤ length b → i ≤ length o → length (take i b ++ drop i o) ≡ length o
 copy_length b o i p q = simp (length-append, length-take, length-drop) (omega arith)
 
-best_long : (c : After-best-1) → length c.args.s.best ≡ 64
-best_long c = sym (length-map c.args.s.best (λ x. x)) ∙ c.well_formed.1.0.1.1.0.1.0.1
-
 -- the bytes are as many as were lent
 long_at : (c : At-loop-i) → length c.loop-i.colours ≡ length c.args.colours.now
 long_at c =
     ap length c.loop-i.invariant.1
     ∙ copy_length c.args.s.best c.args.colours.now c.loop-i.i
-    (omega (arith, c.loop-i.invariant.0, c.requires.0, best_long c)) (omega (arith, c.loop-i.invariant.0, c.requires.1))
+    (omega (arith, c.loop-i.invariant.0, c.requires.0)) (omega (arith, c.loop-i.invariant.0, c.requires.1))
 
 pub returns-then-s : goal.returns-then-s
 returns-then-s c = record { spent = λ o. (refl, refl); done = λ o. absurd (let z : true ≡ false = sym c.if-s.true ∙ o in let q : ◌≡◌ {A = ℕ} 0 1 = cc in omega arith) }
@@ -56,7 +53,7 @@ loop-i-preserved c =
     let o = c.args.colours.now in (
       omega arith,
       ap (λ (x : List ℕ). set x l.i (get_or b l.i 0)) l.invariant.1
-          ∙ copy_step b o l.i (omega (arith, best_long (goal.at.loop-i-preserved c).After-best-1, c.requires.0)) (omega (arith, c.requires.1))
+          ∙ copy_step b o l.i (omega (arith, c.requires.0)) (omega (arith, c.requires.1))
           ∙ ap (λ k. take k b ++ drop k o) (sym (add-one l.i)),
     )
 

@@ -1,13 +1,12 @@
 -- `sheet_texts::number` meets its contract: what is left of the bytes, numbered after so many, is what the whole is. Assumes nothing.
 use Prim.Native.Nat.{◌≤◌, ◌+◌, ◌-◌}
 use mathlib.Core.Path.{◌≡◌, sym, refl, ◌∙◌}
-use mathlib.Core.Logic.{⊎_elim}
 use lib.ListN.{drop}
 use native.Mathlib.Omega.{arith}
 use Rattle.sheet_texts.specs.Sheet.{number_from, numbering}
 use Rattle.sheet_texts.proofs.FirstUse.{number_wrong, number_new, number_old, number_end}
 use Rattle.sheet_texts.proofs.number.Goals as goal
-use Rattle.sheet_texts.proofs.number.Goals.{Joined-g-used}
+use Rattle.sheet_texts.proofs.number.Goals.{Joined-g-used, then-g-used, else-g-used}
 
 stepped : (c : Joined-g-used) →
     let s = c.args.colours.now in
@@ -18,10 +17,10 @@ stepped c =
     let b = c.loop-i in
     let l = c.loop-i-test.true in
     let g = c.wide-g.ensures in
-    ⊎_elim
-    (λ w. (omega arith, rw w.1 (sym (number_new s b.used b.i _ l g w.0.taken) ∙ b.invariant.2)))
-    (λ w. (omega arith, rw w.1 (sym (number_old s b.used b.i _ l g c.if-used-g.false w.0.left) ∙ b.invariant.2)))
-    c.if-g-used.branch
+    elim c.if-g-used.branch [
+      | then-g-used w ↦ (omega arith, rw w.used-is (sym (number_new s b.used b.i _ l g w.if-g-used.true) ∙ b.invariant.2))
+      | else-g-used w ↦ (omega arith, rw w.used-is (sym (number_old s b.used b.i _ l g c.if-used-g.false w.if-g-used.false) ∙ b.invariant.2))
+    ]
 
 pub loop-i-init : goal.loop-i-init
 loop-i-init c = (omega arith, omega arith, refl)

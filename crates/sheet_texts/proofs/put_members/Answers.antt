@@ -2,7 +2,6 @@
 use Prim.Native.Nat.{◌+◌, ◌-◌}
 use mathlib.Core.Path.{ap}
 use mathlib.Core.List.{[]}
-use mathlib.Core.Logic.{⊎_elim}
 use lib.ListN.{drop}
 use native.Mathlib.Omega.{arith}
 use Rattle.lines.specs.Numeral.{one_line}
@@ -10,7 +9,7 @@ use Rattle.lines.proofs.Writing.{Left, left_begin, left_room, left_put, left_ski
 use Rattle.sheet_texts.specs.Sheet.{members_of, member_lines}
 use Rattle.sheet_texts.proofs.Members.{member_yes, member_no, member_end}
 use Rattle.sheet_texts.proofs.put_members.Goals as goal
-use Rattle.sheet_texts.proofs.put_members.Goals.{Joined-wide-g}
+use Rattle.sheet_texts.proofs.put_members.Goals.{Joined-wide-g, then-wide-g, else-wide-g}
 
 stepped : (c : Joined-wide-g) →
     let a = c.args in
@@ -21,10 +20,10 @@ stepped c =
     let b = c.loop-i in
     let l = c.loop-i-test.true in
     let x = c.wide.ensures in
-    ⊎_elim
-    (λ w. rw (w.6, w.7) (left_put _ _ _ b.out b.a _ b.invariant.1 (one_line [] (b.i + 1)) _ (ap member_lines (member_yes a.colours.now b.i a.g _ l x w.0.taken)) _ _ w.3.ensures))
-    (λ w. rw (w.1, w.2) (left_skip _ _ _ b.out b.a _ b.invariant.1 _ (ap member_lines (member_no a.colours.now b.i a.g _ l x w.0.left))))
-    c.if-wide-g.branch
+    elim c.if-wide-g.branch [
+      | then-wide-g w ↦ rw (w.out-is, w.a-is) (left_put _ _ _ b.out b.a _ b.invariant.1 (one_line [] (b.i + 1)) _ (ap member_lines (member_yes a.colours.now b.i a.g _ l x w.if-wide-g.true)) _ _ w.put_one-a.ensures)
+      | else-wide-g w ↦ rw (w.out-is, w.a-is) (left_skip _ _ _ b.out b.a _ b.invariant.1 _ (ap member_lines (member_no a.colours.now b.i a.g _ l x w.if-wide-g.false)))
+    ]
 
 pub loop-i-init : goal.loop-i-init
 loop-i-init c = (omega arith, left_begin c.args.out.now c.args.at _ c.requires.1)

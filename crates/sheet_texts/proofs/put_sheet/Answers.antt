@@ -9,7 +9,7 @@ use Rattle.sheets.specs.Check.{groups_word}
 use Rattle.sheet_texts.specs.Sheet.{groups_text}
 use Rattle.sheet_texts.proofs.Writes.{head_room, rest_room, both_put, sheet_is}
 use Rattle.sheet_texts.proofs.put_sheet.Goals as goal
-use Rattle.sheet_texts.proofs.put_sheet.Goals.{After-slice_known-1, Start}
+use Rattle.sheet_texts.proofs.put_sheet.Goals.{Start}
 
 -- there is room for both pieces
 room : (c : Start) → let a = c.args in 0 + length (one_line groups_word a.k ++ groups_text a.colours.now 0 a.k) ≤ length a.out.now
@@ -20,7 +20,7 @@ put_one-a-requires c =
     let a = c.args in (
       omega (arith, c.requires.2),
       head_room a.out.now 0 (one_line groups_word a.k) (groups_text a.colours.now 0 a.k)
-          (room (goal.at.put_one-a-requires c).After-slice_known-1),
+          (room (goal.at.put_one-a-requires c).Start),
     )
 
 pub put_groups-requires : goal.put_groups-requires
@@ -28,14 +28,14 @@ put_groups-requires c =
     let a = c.args in (
       c.requires.0,
       rest_room a.out.now 0 (one_line groups_word a.k)
-          (groups_text a.colours.now 0 a.k) (room (goal.at.put_groups-requires c).After-slice_known-1) _ _ c.put_one-a.ensures,
+          (groups_text a.colours.now 0 a.k) (room (goal.at.put_groups-requires c).Start) _ _ c.put_one-a.ensures,
     )
 
 pub returns : goal.returns
 returns c =
     let a = c.args in
-    subst (λ (x : List ℕ). Put a.out.now 0 x c.put_groups.new.0 c.put_groups.result)
+    subst (λ (x : List ℕ). Put a.out.now 0 x c.put_groups.new.out c.put_groups.result)
     (sym (sheet_is a.colours.now a.k c.requires.1))
     (both_put a.out.now 0 (one_line groups_word a.k) (groups_text a.colours.now 0 a.k)
-    (room (goal.at.returns c).After-slice_known-1) _ _
+    (room (goal.at.returns c).Start) _ _
     c.put_one-a.ensures _ _ c.put_groups.ensures)

@@ -1,13 +1,12 @@
 -- `sheet_texts::size_of` meets its contract: what was counted and what is left make the whole. Assumes nothing.
 use Prim.Native.Nat.{◌≤◌, ◌+◌, ◌-◌}
 use mathlib.Core.Path.{◌≡◌, ap}
-use mathlib.Core.Logic.{⊎_elim}
 use lib.ListN.{length, drop}
 use native.Mathlib.Omega.{arith}
 use Rattle.sheet_texts.specs.Sheet.{members_of}
 use Rattle.sheet_texts.proofs.Members.{member_yes, member_no, member_end}
 use Rattle.sheet_texts.proofs.size_of.Goals as goal
-use Rattle.sheet_texts.proofs.size_of.Goals.{Joined-wide-g}
+use Rattle.sheet_texts.proofs.size_of.Goals.{Joined-wide-g, then-wide-g, else-wide-g}
 
 stepped : (c : Joined-wide-g) →
     let a = c.args in
@@ -18,10 +17,10 @@ stepped c =
     let b = c.loop-i in
     let l = c.loop-i-test.true in
     let x = c.wide.ensures in
-    ⊎_elim
-    (λ w. (omega arith, omega (arith, ap length (member_yes a.colours.now b.i a.g _ l x w.0.taken), b.invariant.2)))
-    (λ w. (omega arith, omega (arith, ap length (member_no a.colours.now b.i a.g _ l x w.0.left), b.invariant.2)))
-    c.if-wide-g.branch
+    elim c.if-wide-g.branch [
+      | then-wide-g w ↦ (omega arith, omega (arith, ap length (member_yes a.colours.now b.i a.g _ l x w.if-wide-g.true), b.invariant.2))
+      | else-wide-g w ↦ (omega arith, omega (arith, ap length (member_no a.colours.now b.i a.g _ l x w.if-wide-g.false), b.invariant.2))
+    ]
 
 pub loop-i-init : goal.loop-i-init
 loop-i-init c = (omega arith, omega arith, omega arith)

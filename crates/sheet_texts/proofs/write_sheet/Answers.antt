@@ -51,5 +51,5 @@ returns-else-out-n c =
     c.compose-text.ensures.1 _ _ c.if-out-n.false
     (subst (λ (x : List ℕ). Put
     c.args.out.now 0 x
-    c.put_word-length.new.0 c.put_word-length.result) c.compose-text.ensures.2
+    c.put_word-length.new.out c.put_word-length.result) c.compose-text.ensures.2
     c.put_word-length.ensures)

@@ -2,14 +2,13 @@
 use borrow.Author.Rules.{rules}
 use Prim.Native.Nat.{◌-◌}
 use mathlib.Core.Path.{sym, refl, ◌∙◌}
-use mathlib.Core.Logic.{⊎_elim}
 use native.Mathlib.Omega.{arith}
 use Rattle.clashes.specs.Matrix.{matrix}
 use Rattle.lists.specs.Read.{most_entries, longest_text}
 use Rattle.sheets.proofs.Sets.{empty_is, empty_within}
 use Rattle.sheets.proofs.Fold.{start_sound, check_halts, check_ends, check_short, check_long, turn, Turned, place_below, turned_count, turned_place}
 use Rattle.sheets.proofs.check_lines.Goals as goal
-use Rattle.sheets.proofs.check_lines.Goals.{Joined-line_step}
+use Rattle.sheets.proofs.check_lines.Goals.{Joined-line_step, in-Count, in-Place}
 
 turned : (c : Joined-line_step) →
     let a = c.args in
@@ -23,14 +22,14 @@ turned c =
     let few = c.requires.0 in
     let i = c.loop-at.invariant in
     let st = sym c.line_step.ensures in
-    ⊎_elim
-    (λ w. turned_count most_entries a.sheet.now a.n (matrix a.rows.now) c.loop-at.at e.result c.loop-at.line c.loop-at.p c.loop-at.mates
-    c.loop-at.earlier c.loop-at.colours e.ensures.0 l few i.3 i.5 i.4
-    w.1.given.0.0 (st ∙ w.1.given.1) _ _ _ _ _ w.3.ensures w.7 w.4 w.5 w.6)
-    (λ w. turned_place most_entries a.sheet.now a.n (matrix a.rows.now) c.loop-at.at e.result c.loop-at.line c.loop-at.p c.loop-at.mates
-    c.loop-at.earlier c.loop-at.colours e.ensures.0 l few i.3 i.5 i.4
-    w.1.given.0.0 w.1.given.0.1.0 w.1.given.0.1.1.0 (st ∙ w.1.given.1) _ _ _ _ _ w.3.ensures w.7 w.4 w.5 w.6)
-    c.match-line_step.branch
+    elim c.match-line_step.branch [
+      | in-Count w ↦ turned_count most_entries a.sheet.now a.n (matrix a.rows.now) c.loop-at.at e.result c.loop-at.line c.loop-at.p c.loop-at.mates
+          c.loop-at.earlier c.loop-at.colours e.ensures.0 l few i.3 i.5 i.4
+          w.in-Count.q (st ∙ w.in-Count.is) _ _ _ _ _ w.join-earlier.ensures w.colours-is w.p-is w.mates-is w.earlier-is
+      | in-Place w ↦ turned_place most_entries a.sheet.now a.n (matrix a.rows.now) c.loop-at.at e.result c.loop-at.line c.loop-at.p c.loop-at.mates
+          c.loop-at.earlier c.loop-at.colours e.ensures.0 l few i.3 i.5 i.4
+          w.in-Place.q w.in-Place.i w.in-Place.g (st ∙ w.in-Place.is) _ _ _ _ _ w.with-mates.ensures w.colours-is w.p-is w.mates-is w.earlier-is
+    ]
 
 pub returns-then-sheet-gt-LONGEST : goal.returns-then-sheet-gt-LONGEST
 returns-then-sheet-gt-LONGEST c = c.refused.ensures ∙ sym (check_long most_entries c.args.sheet.now c.args.n _ longest_text c.if-sheet-gt-LONGEST.true)
@@ -65,7 +64,7 @@ pub with-mates-requires : goal.with-mates-requires
 with-mates-requires c =
     let b = c.loop-at in
     place_below most_entries c.args.sheet.now
-    c.args.n _ b.at _ b.line b.p b.mates b.earlier
+    c.args.n (matrix c.args.rows.now) b.at _ b.line b.p b.mates b.earlier
     b.colours c.line_end-e.ensures.0 c.if-sheet-e.false
     c.requires.0 b.invariant.3 b.invariant.5 b.invariant.4 _ _ _
     (sym c.line_step.ensures ∙ c.in-Place.is)
@@ -74,7 +73,7 @@ pub bounds-colours-i : goal.bounds-colours-i
 bounds-colours-i c =
     let b = c.loop-at in
     let h = place_below most_entries c.args.sheet.now
-    c.args.n _ b.at _ b.line b.p b.mates
+    c.args.n (matrix c.args.rows.now) b.at _ b.line b.p b.mates
     b.earlier b.colours c.line_end-e.ensures.0
     c.if-sheet-e.false
     c.requires.0 b.invariant.3 b.invariant.5 b.invariant.4 _ _ _

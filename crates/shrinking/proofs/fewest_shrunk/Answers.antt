@@ -11,8 +11,8 @@ use Rattle.shrinking.proofs.fewest_shrunk.Goals.{In-At}
 
 -- the rows are a list's, and the bound is its own
 bounded : (c : In-At)
-    → let g = c.b-in-At-1.given.0 in
-    Answers mycielskian no_members c.args.rows.now (At g.0 g.1.0)
+    → let g = c.in-At in
+    Answers mycielskian no_members c.args.rows.now (At g.bound g.field-1)
 bounded c =
     subst (Answers mycielskian no_members c.args.rows.now) c.in-At.is c.mycielskian_bound-b.ensures
 

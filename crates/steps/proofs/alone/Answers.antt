@@ -1,7 +1,7 @@
 -- `steps::alone` meets its contract. Where i entries are written, they are 0 to i - 1, and the bytes behind them are as they were. Assumes nothing.
 use mathlib.Core.Path.{◌≡◌, refl, sym, ap, ◌∙◌}
 use mathlib.Core.List.{◌++◌}
-use Prim.Native.Nat.{ℕ, ◌-◌}
+use Prim.Native.Nat.{ℕ}
 use native.Mathlib.Omega.{arith}
 use lib.ListN.{length, drop}
 use Rattle.sets.proofs.ListLaws.{length_table, get_d_table}

@@ -1,6 +1,5 @@
 -- `steps::copied` meets its contract. Where i numbers are copied, those behind them are as they were. Assumes nothing.
 use mathlib.Core.Path.{◌≡◌, refl}
-use Prim.Native.Nat.{◌-◌}
 use native.Mathlib.Omega.{arith}
 use lib.ListN.{length}
 use Rattle.steps.proofs.Copying.{onto_next, onto_long, onto_all}

@@ -22,10 +22,10 @@ room c =
     (omega (arith, c.written-m.ensures, few, c.requires.rows_in_bounds), omega (arith, c.written-m.ensures, few, c.requires.fact.bytes))
 
 -- the bytes are as many as were lent
-long_at : (c : At-loop-i) → length c.loop-i.colours ≡ length c.args.colours.now
-long_at c =
+long_at : (c : At-loop-i) → (c.written-m.result ≤ length c.args.best.now) × (c.written-m.result ≤ length c.args.colours.now)
+    → length c.loop-i.colours ≡ length c.args.colours.now
+long_at c r =
     let a = c.args in
-    let r = room c in
     onto_long a.best.now a.colours.now c.loop-i.colours c.loop-i.i c.loop-i.invariant.1 (omega (arith, c.loop-i.invariant.0, r.0)) (omega (arith, c.loop-i.invariant.0, r.1))
 
 -- all of them are written
@@ -45,7 +45,7 @@ pub bounds-best-i : goal.bounds-best-i
 bounds-best-i c = omega (arith, (room (goal.at.bounds-best-i c).After-written-m).0)
 
 pub bounds-colours-i : goal.bounds-colours-i
-bounds-colours-i c = omega (arith, (room (goal.at.bounds-colours-i c).After-written-m).1, long_at (goal.at.bounds-colours-i c).At-loop-i)
+bounds-colours-i c = omega (arith, (room (goal.at.bounds-colours-i c).After-written-m).1, long_at (goal.at.bounds-colours-i c).At-loop-i (room (goal.at.bounds-colours-i c).After-written-m))
 
 pub loop-i-smaller : goal.loop-i-smaller
 loop-i-smaller c = omega arith
@@ -58,7 +58,7 @@ loop-i-preserved c =
     (omega arith, onto_next a.best.now a.colours.now l.colours l.i _ l.invariant.1 (omega (arith, r.0)) (omega (arith, r.1)) refl)
 
 pub shape_of-colours-then-s : goal.shape_of-colours-then-s
-shape_of-colours-then-s c = long_at (goal.at.shape_of-colours-then-s c).At-loop-i
+shape_of-colours-then-s c = long_at (goal.at.shape_of-colours-then-s c).At-loop-i (room (goal.at.shape_of-colours-then-s c).After-written-m)
 
 pub returns-then-s : goal.returns-then-s
 returns-then-s c =
@@ -72,7 +72,7 @@ pub clique_of-requires : goal.clique_of-requires
 clique_of-requires c = c.requires.fact.sound
 
 pub shape_of-colours : goal.shape_of-colours
-shape_of-colours c = long_at (goal.at.shape_of-colours c).At-loop-i
+shape_of-colours c = long_at (goal.at.shape_of-colours c).At-loop-i (room (goal.at.shape_of-colours c).After-written-m)
 
 pub returns : goal.returns
 returns c =
