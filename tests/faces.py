@@ -54,7 +54,7 @@ if len(names) != len(refusals) or len(numbers) != len(refusals):
 number = text("crates/refusals/src/lib.rt").split("pub fn number(")[1].split("\n}\n")[0]
 proved = dict(re.findall(r"Refusal::(\w+) => (\d+),", number))
 compare("bindings/interface.txt against crates/refusals", numbers, {name: int(number) for name, number in proved.items()})
-told = {"nothing": "-", "aRow": "row", "theNodes": "nodes", "aLine": "line", "aSpot": "spot", "anIndex": "index"}
+told = {"nothing": "-", "a_row": "row", "the_nodes": "nodes", "a_line": "line", "a_spot": "spot", "an_index": "index"}
 table = re.findall(r"^entry (\w+) = row (\d+) (\w+)$", text("crates/refusals/specs/Table.antt"), re.M)
 compare("bindings/interface.txt against crates/refusals/specs/Table.antt", beside, {name: told.get(also, also) for name, _, also in table})
 
@@ -108,6 +108,7 @@ declared = set(re.findall(r"\bslotsheet_(\w+)\(", re.sub(r"/\*.*?\*/", "", heade
 own = {"version", "name", "sentence"}
 calls = {
     "crates/capi": set(re.findall(r'pub extern "C" fn slotsheet_(\w+)', text("crates/capi/src/lib.rt"))),
+    "crates/capi_c": set(re.findall(r'pub extern "C" fn slotsheet_(\w+)', text("crates/capi_c/src/lib.rt"))),
     "bindings/c/slotsheet.c": set(re.findall(r"return slotsheet_proved_(\w+)\(", text("bindings/c/slotsheet.c"))),
     "bindings/rust/src/raw.rs": set(re.findall(r"pub fn slotsheet_(\w+)\(", text("bindings/rust/src/raw.rs"))),
     "bindings/python": set(re.findall(r'^    "(\w+)": \(', text("bindings/python/slotsheet.py"), re.M)) - own,

@@ -1,5 +1,5 @@
-//! Links the proved library: from the folder that SLOTSHEET_LIB names; else, in the repository, from `target/staticlib`, where `rt staticlib capi`
-//! writes it; else from `lib` of the prefix that `tools/install` put this crate below. An installed archive is libslotsheet.a, the repository's own
+//! Links the proved library: from the folder that SLOTSHEET_LIB names; else, in the repository, from `target/staticlib`, where `tools/build capi`
+//! puts it; else from `lib` of the prefix that `tools/install` put this crate below. An installed archive is libslotsheet.a, the repository's own
 //! is libcapi.a; they have the same proved functions.
 
 use std::path::{Path, PathBuf};

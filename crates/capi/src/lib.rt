@@ -1,5 +1,6 @@
 // The library's face for C and the languages that call C: the same calls, answered in document 01's numbers. A lent slice is passed as a pointer
-// and a length. A call whose name ends in `repeats` reads a clash text with repeats allowed. include/slotsheet.h declares these.
+// and a length. A call whose name ends in `repeats` reads a clash text with repeats allowed. include/slotsheet.h declares these; a library exports
+// nothing, so the static library `capi_c` hands them on under the same names.
 #![tactic(auto)]
 
 ghost use Rattle.std.specs.Prelude.{true, false};

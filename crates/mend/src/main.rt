@@ -11,11 +11,22 @@ ghost use Rattle.std.specs.Prelude.{◌≤◌, length};
 ghost use Rattle.answers.specs.Mended.{MendedPromise, LongSheetPromise};
 
 use answers::Printed;
-use libc::{STDERR_FILENO, STDOUT_FILENO};
 use sittings::numbers::MendNumbers;
+use std::env::{Env, FillError};
+use std::fmt::InlineText;
+use std::io::{Print, Read};
+use std::rt::Files;
+use std::{fs, io, str};
 
 // No output is longer than 449,161 bytes.
 const ROOM: usize = 458752;
+
+// The system's numbers of three errors: an argument that is not there, a name that is longer than any file's, and one that is no UTF-8.
+const EINVAL: i32 = 22;
+
+const ENAMETOOLONG: i32 = 36;
+
+const EILSEQ: i32 = 84;
 
 // What the arguments ask for: the plain reading of the list; the one that allows repeats; or something else.
 #[derive(Drop)]
@@ -33,16 +44,23 @@ struct File {
     pub long: bool,
 }
 
-fn say(words: &[u8]) {
-    io::write_all(STDERR_FILENO, words);
+// On standard error; nobody is left to be told where that fails.
+fn say(stderr: &impl Print, words: &[u8]) {
+    let _ = stderr.write_all(words);
 }
 
-// A file that cannot be read, by its name, and why.
-fn unread(name: &[u8]) -> File
+// A file that cannot be read, by its name, and why: the system's words for the error, without its number.
+fn unread(stderr: &impl Print, name: &[u8], why: io::Error) -> File
     ensures { result.length ≤ 0 }
 {
-    say(b"mend: ");
-    os::fail(name);
+    let text = InlineText::<256>::of(why);
+    let words = text.as_str();
+    let end = words.find(" (os error ").unwrap_or(words.len());
+    say(stderr, b"mend: ");
+    say(stderr, name);
+    say(stderr, b": ");
+    say(stderr, &words.as_bytes()[..end]);
+    say(stderr, b"\n");
     File {
         found: false,
         length: 0,
@@ -50,21 +68,34 @@ fn unread(name: &[u8]) -> File
     }
 }
 
+// Reads until the bytes are full, the input ends or a read fails, and returns how many it read: a read that fails ends the input there.
+fn read_full(input: &mut impl Read, bytes: &mut [u8]) -> usize
+    ensures { result ≤ length bytes.new }
+{
+    let mut done = 0;
+    while done < bytes.len() {
+        match input.read(&mut bytes[done..]) {
+            Ok(0) | Err(_) => break,
+            Ok(n) => done += n,
+        }
+    }
+    done
+}
+
 // Reads the open file into the text. Where that is full and one byte more can be read, the file is too long.
-fn filled(fd: i32, name: &[u8], text: &mut [u8]) -> File
+fn filled(stderr: &impl Print, file: &mut impl Read, name: &[u8], text: &mut [u8]) -> File
     ensures { result.length ≤ length text.new }
 {
-    let got = libc::read(fd, text);
-    if got < 0 {
-        return unread(name);
-    }
-    let first = io::count(got, text);
-    let rest = io::read_full(fd, &mut text[first..]);
+    let first = match file.read(text) {
+        Ok(n) => n,
+        Err(why) => return unread(stderr, name, why),
+    };
+    let rest = read_full(file, &mut text[first..]);
     let total = first + rest;
     let mut long = false;
     if total == text.len() {
         let mut more = [0u8; 1];
-        long = io::read_full(fd, &mut more) != 0;
+        long = read_full(file, &mut more) != 0;
     }
     File {
         found: true,
@@ -73,28 +104,38 @@ fn filled(fd: i32, name: &[u8], text: &mut [u8]) -> File
     }
 }
 
-// Reads the file that argument i names into the text.
-fn taken(i: usize, text: &mut [u8]) -> File
+// Reads the file that argument i names into the text. Files are opened by names in UTF-8 alone.
+fn taken(rt: &(impl Env + Files), stderr: &impl Print, i: usize, text: &mut [u8]) -> File
     ensures { result.length ≤ length text.new }
 {
-    let mut name = io::buffer();
-    let n = os::arg(i, &mut name);
-    if os::errno() != 0 {
-        return unread(b"a file's name");
+    let mut buffer = [0u8; 4096];
+    let n = match rt.arg(i, &mut buffer) {
+        Ok(n) => n,
+        Err(why) => return unread(stderr, b"a file's name", not_filled(why)),
+    };
+    let name = &buffer[..n];
+    let Ok(path) = str::from_utf8(name) else {
+        return unread(stderr, name, io::Error::from_raw_os_error(EILSEQ));
+    };
+    match fs::open(rt, path) {
+        Ok(mut file) => filled(stderr, &mut file, name, text),
+        Err(why) => unread(stderr, name, why),
     }
-    let fd = os::open_read(&name[..n]);
-    if fd < 0 {
-        return unread(&name[..n]);
-    }
-    let file = filled(fd, &name[..n], text);
-    libc::close(fd);
-    file
 }
 
-fn print(a: Printed, out: &[u8]) {
+// The system's error for an argument that does not fill the buffer.
+fn not_filled(why: FillError) -> io::Error {
+    io::Error::from_raw_os_error(match why {
+        FillError::NotPresent => EINVAL,
+        FillError::TooLong => ENAMETOOLONG,
+    })
+}
+
+// Nobody is left to be told of a write that fails.
+fn print(rt: &impl Print, a: Printed, out: &[u8]) {
     if let Printed::Length(n) = a {
         if n <= out.len() {
-            io::write_all(STDOUT_FILENO, &out[..n]);
+            let _ = rt.write_all(&out[..n]);
         }
     }
 }
@@ -128,85 +169,91 @@ fn numbers(list: &[u8], sheet: &[u8], out: &mut [u8], plain: bool) -> MendNumber
 }
 
 // The line at fault, by its number, on standard error. 18 has none.
-fn show(line: usize, text: &[u8]) {
+fn show(stderr: &impl Print, line: usize, text: &[u8]) {
     if line == 0 {
-        say(b" has more than 65,536 bytes\n");
+        say(stderr, b" has more than 65,536 bytes\n");
         return;
     }
-    say(b" is at fault, line ");
-    io::print_decimal(STDERR_FILENO, line as u64);
-    say(b":\n    ");
-    say(lines::line_no(text, line - 1));
-    say(b"\n");
+    say(stderr, b" is at fault, line ");
+    let _ = stderr.print(line);
+    say(stderr, b":\n    ");
+    say(stderr, lines::line_no(text, line - 1));
+    say(stderr, b"\n");
 }
 
 // Which text is at fault, and its line.
-fn blame(m: MendNumbers, list: &[u8], sheet: &[u8]) {
+fn blame(stderr: &impl Print, m: MendNumbers, list: &[u8], sheet: &[u8]) {
     if m.text == 1 {
-        say(b"mend: the list");
-        show(m.line, list);
+        say(stderr, b"mend: the list");
+        show(stderr, m.line, list);
     }
     if m.text == 2 {
-        say(b"mend: the sheet");
-        show(m.line, sheet);
+        say(stderr, b"mend: the sheet");
+        show(stderr, m.line, sheet);
     }
 }
 
 // Both texts are there.
-fn mended(list: &[u8], sheet: &[u8], plain: bool) {
+fn mended(rt: &impl Print, stderr: &impl Print, list: &[u8], sheet: &[u8], plain: bool) {
     let mut out = [0u8; ROOM];
     let a = answer(list, sheet, &mut out, plain);
-    print(a, &out);
+    print(rt, a, &out);
     let m = numbers(list, sheet, &mut out, plain);
-    blame(m, list, sheet);
+    blame(stderr, m, list, sheet);
 }
 
 // The list is too long: that comes before all else, and what slotsheet prints for it is printed.
-fn long_list() {
+fn long_list(rt: &impl Print, stderr: &impl Print) {
     let mut out = [0u8; 64];
     let a = sittings::answer_long(&mut out);
-    print(a, &out);
-    say(b"mend: the list");
-    show(0, b"");
+    print(rt, a, &out);
+    say(stderr, b"mend: the list");
+    show(stderr, 0, b"");
 }
 
 // The sheet is too long: only the list's own refusals come before that.
-fn long_sheet(list: &[u8], plain: bool) {
+fn long_sheet(rt: &impl Print, stderr: &impl Print, list: &[u8], plain: bool) {
     let mut out = [0u8; 64];
     let a = answer_long(list, &mut out, plain);
-    print(a, &out);
+    print(rt, a, &out);
     let m = numbers(list, b"", &mut out, plain);
     if m.text == 1 {
-        blame(m, list, b"");
+        blame(stderr, m, list, b"");
         return;
     }
-    say(b"mend: the sheet");
-    show(0, b"");
+    say(stderr, b"mend: the sheet");
+    show(stderr, 0, b"");
 }
 
 // Two buffers of 65,536 bytes, zero at the start.
-fn run(first: usize, second: usize, plain: bool) {
+fn run(
+    rt: &(impl Env + Files + Print),
+    stderr: &impl Print,
+    first: usize,
+    second: usize,
+    plain: bool,
+) {
     let mut list = [0u8; 65536];
     let mut sheet = [0u8; 65536];
-    let a = taken(first, &mut list);
+    let a = taken(rt, stderr, first, &mut list);
     if !a.found {
         return;
     }
-    let b = taken(second, &mut sheet);
+    let b = taken(rt, stderr, second, &mut sheet);
     if !b.found {
         return;
     }
     if a.long {
-        long_list();
+        long_list(rt, stderr);
         return;
     }
     let n = a.length;
     let m = b.length;
     if b.long {
-        long_sheet(&list[..n], plain);
+        long_sheet(rt, stderr, &list[..n], plain);
         return;
     }
-    mended(&list[..n], &sheet[..m], plain);
+    mended(rt, stderr, &list[..n], &sheet[..m], plain);
 }
 
 fn is_repeats(word: &[u8]) -> bool {
@@ -216,12 +263,25 @@ fn is_repeats(word: &[u8]) -> bool {
     lines::begins(word, b"--repeats")
 }
 
-// The first argument is the program's own name. One that is longer than the buffer is handed over as an empty one.
-fn arguments() -> Wanted {
-    let n = os::arg_count();
+// How many arguments there are, of five.
+fn argument_count(rt: &impl Env) -> usize {
+    let mut word = [0u8; 1];
+    for i in 0..5usize {
+        if matches!(rt.arg(i, &mut word), Err(FillError::NotPresent)) {
+            return i;
+        }
+    }
+    5
+}
+
+// The first argument is the program's own name. One that is longer than the buffer is none of those that the program knows.
+fn arguments(rt: &impl Env) -> Wanted {
+    let n = argument_count(rt);
     let mut word = [0u8; 16];
-    let length = os::arg(1, &mut word);
-    let repeats = is_repeats(&word[..length]);
+    let repeats = match rt.arg(1, &mut word) {
+        Ok(length) => is_repeats(&word[..length]),
+        Err(_) => false,
+    };
     if n == 4 && repeats {
         return Wanted::Repeats;
     }
@@ -231,10 +291,11 @@ fn arguments() -> Wanted {
     Wanted::Other
 }
 
-fn main() {
-    match arguments() {
-        Wanted::Plain => run(1, 2, true),
-        Wanted::Repeats => run(2, 3, false),
-        Wanted::Other => say(b"usage: mend [--repeats] LIST SHEET\n"),
+fn main(rt: HostRuntime) {
+    let stderr = rt.stderr();
+    match arguments(&rt) {
+        Wanted::Plain => run(&rt, &stderr, 1, 2, true),
+        Wanted::Repeats => run(&rt, &stderr, 2, 3, false),
+        Wanted::Other => say(&stderr, b"usage: mend [--repeats] LIST SHEET\n"),
     }
 }

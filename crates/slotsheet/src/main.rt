@@ -3,10 +3,12 @@
 // The program only reads, calls and writes: the very bytes that it prints are the library's answer.
 #![tactic(auto)]
 
+ghost use Rattle.std.specs.Prelude.{◌≤◌, length};
 ghost use Rattle.answers.specs.Printed.{AnswerPromise};
 
 use answers::Printed;
-use libc::{STDERR_FILENO, STDIN_FILENO, STDOUT_FILENO};
+use std::env::{Env, FillError};
+use std::io::{Eprint, Input, Print, Read};
 
 // No answer is longer than 641 bytes.
 const ROOM: usize = 1024;
@@ -19,10 +21,25 @@ enum Wanted {
     Other,
 }
 
-fn print(a: Printed, out: &[u8]) {
+// Reads until the bytes are full, the input ends or a read fails, and returns how many it read: a read that fails ends the input there.
+fn read_full(input: &mut impl Read, bytes: &mut [u8]) -> usize
+    ensures { result ≤ length bytes.new }
+{
+    let mut done = 0;
+    while done < bytes.len() {
+        match input.read(&mut bytes[done..]) {
+            Ok(0) | Err(_) => break,
+            Ok(n) => done += n,
+        }
+    }
+    done
+}
+
+// Nobody is left to be told of a write that fails.
+fn print(rt: &impl Print, a: Printed, out: &[u8]) {
     if let Printed::Length(n) = a {
         if n <= out.len() {
-            io::write_all(STDOUT_FILENO, &out[..n]);
+            let _ = rt.write_all(&out[..n]);
         }
     }
 }
@@ -37,20 +54,21 @@ fn answer(text: &[u8], out: &mut [u8], plain: bool) -> Printed
 }
 
 // One buffer of 65,536 bytes, zero at the start. Where it is full and one byte more can be read, the text is too long.
-fn run(plain: bool) {
+fn run(rt: &(impl Input + Print), plain: bool) {
+    let mut input = rt.reader();
     let mut text = [0u8; 65536];
     let mut out = [0u8; ROOM];
-    let n = io::read_full(STDIN_FILENO, &mut text);
+    let n = read_full(&mut input, &mut text);
     if n == 65536 {
         let mut more = [0u8; 1];
-        if io::read_full(STDIN_FILENO, &mut more) != 0 {
+        if read_full(&mut input, &mut more) != 0 {
             let a = sittings::answer_long(&mut out);
-            print(a, &out);
+            print(rt, a, &out);
             return;
         }
     }
     let a = answer(&text[..n], &mut out, plain);
-    print(a, &out);
+    print(rt, a, &out);
 }
 
 fn is_repeats(word: &[u8]) -> bool {
@@ -60,28 +78,28 @@ fn is_repeats(word: &[u8]) -> bool {
     lines::begins(word, b"--repeats")
 }
 
-// The first argument is the program's own name. One that is longer than the buffer is handed over as an empty one.
-fn arguments() -> Wanted {
-    let n = os::arg_count();
-    if n < 2 {
-        return Wanted::Plain;
-    }
-    if n == 2 {
-        let mut word = [0u8; 16];
-        let length = os::arg(1, &mut word);
-        if is_repeats(&word[..length]) {
-            return Wanted::Repeats;
-        }
-    }
-    Wanted::Other
+// Whether there is an argument of this number.
+fn is_given(rt: &impl Env, i: usize) -> bool {
+    let mut word = [0u8; 1];
+    !matches!(rt.arg(i, &mut word), Err(FillError::NotPresent))
 }
 
-fn main() {
-    match arguments() {
-        Wanted::Plain => run(true),
-        Wanted::Repeats => run(false),
+// The first argument is the program's own name. One that is longer than the buffer is none of those that the program knows.
+fn arguments(rt: &impl Env) -> Wanted {
+    let mut word = [0u8; 16];
+    match rt.arg(1, &mut word) {
+        Err(FillError::NotPresent) => Wanted::Plain,
+        Ok(length) if is_repeats(&word[..length]) && !is_given(rt, 2) => Wanted::Repeats,
+        _ => Wanted::Other,
+    }
+}
+
+fn main(rt: HostRuntime) {
+    match arguments(&rt) {
+        Wanted::Plain => run(&rt, true),
+        Wanted::Repeats => run(&rt, false),
         Wanted::Other => {
-            io::write_all(STDERR_FILENO, b"usage: slotsheet [--repeats]\n");
+            let _ = rt.eprint("usage: slotsheet [--repeats]\n");
         }
     }
 }

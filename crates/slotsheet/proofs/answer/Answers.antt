@@ -1,8 +1,0 @@
--- `slotsheet::answer` meets its contract: each reading by its own call. Assumes nothing.
-use Rattle.slotsheet.proofs.answer.Goals as goal
-
-pub returns-then-plain : goal.returns-then-plain
-returns-then-plain c = rw c.if-plain.true c.answer.ensures
-
-pub returns : goal.returns
-returns c = rw c.if-plain.false c.answer_repeats.ensures
