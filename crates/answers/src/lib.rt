@@ -15,7 +15,7 @@ use sheet_texts::{Composed, compose};
 use walk::Answer;
 
 // The whole text was written, with its length; or it does not fit, which is document 01's 19.
-#[derive(Drop)]
+#[derive(Clone, Copy)]
 pub enum Printed {
     Length(usize),
     Full,

@@ -16,7 +16,7 @@ use sets::size;
 use wide::Set;
 
 // A bound of a lent matrix, with the members of the clique where it is that one's size; or document 01's refusals 1 to 4 with the lowest row at fault.
-#[derive(Drop)]
+#[derive(Clone, Copy)]
 pub enum Bound {
     At(usize, u64),
     Many,

@@ -7,7 +7,7 @@ ghost use Rattle.clashes.specs.Matrix.{HasStray, HasItself, HasOneSided, FirstRo
 use sets::{below, has, less, lowest, meet, rest};
 
 // The answer for lent rows: document 01's numbers 1 to 4, with the lowest row at fault.
-#[derive(Drop)]
+#[derive(Clone, Copy)]
 pub enum Verdict {
     Valid,
     Many,

@@ -21,14 +21,14 @@ pub struct Counts {
 }
 
 // Sums of digits: their ones and their twos.
-#[derive(Drop)]
+#[derive(Clone, Copy)]
 struct Sum {
     pub ones: u64,
     pub twos: u64,
 }
 
 // A row that is counted next, and whose rows are left.
-#[derive(Drop)]
+#[derive(Clone, Copy)]
 struct Pulled {
     pub row: u64,
     pub left: u64,

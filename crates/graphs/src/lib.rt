@@ -13,7 +13,7 @@ use counts::{Counts, at_least, counted, greatest};
 use sets::{below, less, lowest, meet, rest, size};
 
 // How many entries there are, the live vertices, a row of neighbours for each, and which live vertex stands for each entry.
-#[derive(Drop)]
+#[derive(Clone, Copy)]
 pub struct Node {
     pub n: usize,
     pub live: u64,
@@ -22,14 +22,14 @@ pub struct Node {
 }
 
 // Where to split a node: nowhere, since it is complete, or at u and v.
-#[derive(Drop)]
+#[derive(Clone, Copy)]
 pub enum Choice {
     Complete,
     Split(usize, usize),
 }
 
 // The pair that leads so far, with one more than its common neighbours; 0 where there is none yet.
-#[derive(Drop)]
+#[derive(Clone, Copy)]
 pub struct Lead {
     pub size: usize,
     pub u: usize,

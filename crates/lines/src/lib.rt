@@ -12,21 +12,21 @@ ghost use Rattle.lines.specs.Numeral.{numeral, one_line, two_line, Put};
 ghost use Rattle.lines.specs.Reader.{in_text_lem, next_number_lem, start_of, next_of, at_end_lem};
 
 // The number at the front of some bytes and how many bytes it takes.
-#[derive(Drop)]
+#[derive(Clone, Copy)]
 pub enum Front {
     Is(usize, usize),
     Not,
 }
 
 // One number and nothing else.
-#[derive(Drop)]
+#[derive(Clone, Copy)]
 pub enum Alone {
     Only(usize),
     Other,
 }
 
 // Two numbers with one space between and nothing else.
-#[derive(Drop)]
+#[derive(Clone, Copy)]
 pub enum Pair {
     Both(usize, usize),
     Neither,

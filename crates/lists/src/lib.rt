@@ -19,7 +19,7 @@ ghost use Rattle.lists.specs.Promise.{refusal_of_lem, ReadPromise, WritePromise}
 use refusals::Refusal;
 
 // What a line is: "c" and anything; "p edge N M"; "e U V"; or none of these.
-#[derive(Drop)]
+#[derive(Clone, Copy)]
 pub enum Shape {
     Comment,
     P(usize, usize),
@@ -28,7 +28,7 @@ pub enum Shape {
 }
 
 // The refusals of a clash text, document 01's 10 to 18 and document 02's, by their names.
-#[derive(Drop)]
+#[derive(Clone, Copy)]
 pub enum Fault {
     Line,
     Headless,
@@ -67,21 +67,21 @@ pub fn refusal_of(why: Fault) -> Refusal
 }
 
 // Read, with how many entries; or refused, with the line at fault and its column, each 0 where none is named.
-#[derive(Drop)]
+#[derive(Clone, Copy)]
 pub enum Reading {
     Read(usize),
     Refused(Fault, usize, usize),
 }
 
 // What reading found: the answer, and the rows of an accepted list (the others are 0).
-#[derive(Drop)]
+#[derive(Clone, Copy)]
 pub struct Found {
     pub answer: Reading,
     pub rows: [u64; 64],
 }
 
 // What is known after some lines: whether a p line was seen and its numbers, and how many e lines were.
-#[derive(Drop)]
+#[derive(Clone, Copy)]
 pub struct Head {
     pub seen: bool,
     pub n: usize,
@@ -90,14 +90,14 @@ pub struct Head {
 }
 
 // A fault of a line's shape, and its column: of the byte, counted from 1, at which the line can no longer begin a permitted one.
-#[derive(Drop)]
+#[derive(Clone, Copy)]
 pub struct Spot {
     pub fault: Fault,
     pub column: usize,
 }
 
 // What a line does: a fault of its shape, another fault, something more known, or an edge besides, by entries that count from 0.
-#[derive(Drop)]
+#[derive(Clone, Copy)]
 pub enum Step {
     StopAt(Spot),
     Stop(Fault),
@@ -145,7 +145,7 @@ pub struct Due {
 }
 
 // What is expected after a byte, where it can stand.
-#[derive(Drop)]
+#[derive(Clone, Copy)]
 pub enum Onward {
     To(Due),
     Nowhere,
@@ -498,7 +498,7 @@ pub fn read_list(text: &[u8], rows: &mut [u64], plain: bool) -> Reading
 }
 
 // Written, with the text's length; or refused by document 01's 1 to 4, with the row at fault, or by 19.
-#[derive(Drop)]
+#[derive(Clone, Copy)]
 pub enum Written {
     Length(usize),
     Many,
@@ -509,7 +509,7 @@ pub enum Written {
 }
 
 // How many edges there are, and how many bytes their lines take.
-#[derive(Drop)]
+#[derive(Clone, Copy)]
 pub struct Extent {
     pub edges: usize,
     pub bytes: usize,

@@ -36,14 +36,14 @@ pub struct Gone {
 }
 
 // The sheet has its shape, or a fault of its own with its line.
-#[derive(Drop)]
+#[derive(Clone, Copy)]
 pub enum Shape {
     Whole,
     Faulty(SheetFault, usize),
 }
 
 // A sheet gone through.
-#[derive(Drop)]
+#[derive(Clone, Copy)]
 pub struct Through {
     pub shape: Shape,
     pub gone: Gone,
@@ -57,7 +57,7 @@ pub struct Groups {
 }
 
 // Each entry's group number, and how many groups there are.
-#[derive(Drop)]
+#[derive(Clone, Copy)]
 pub struct Numbered {
     pub colours: [u8; 64],
     pub groups: usize,

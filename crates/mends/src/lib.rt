@@ -4,7 +4,7 @@
 
 // Written, with the length of report and sheet together; refused for the list, with its own refusal, line and column; refused for the sheet, by 18, 30,
 // 35 or 37, with its line (0 where none is named); or refused by 19.
-#[derive(Drop)]
+#[derive(Clone, Copy)]
 pub enum Mended {
     Written(usize),
     Unread(lists::Fault, usize, usize),
@@ -13,7 +13,7 @@ pub enum Mended {
 }
 
 // Document 01's numbers of an answer; those that it does not name are 0. `text` says which text is at fault, as a check's numbers do.
-#[derive(Drop)]
+#[derive(Clone, Copy)]
 pub struct Numbers {
     pub number: usize,
     pub line: usize,
@@ -23,7 +23,7 @@ pub struct Numbers {
 }
 
 // What is still to come of a sheet: whether "groups K" was read, how many groups, and how many members of this one.
-#[derive(Drop)]
+#[derive(Clone, Copy)]
 pub struct Counts {
     pub begun: bool,
     pub left: usize,
@@ -31,7 +31,7 @@ pub struct Counts {
 }
 
 // What a line is, by its place: a fault, "groups K", a size, or a member; and what is still to come after it.
-#[derive(Drop)]
+#[derive(Clone, Copy)]
 pub enum Step {
     Stop(sheets::SheetFault),
     Groups(Counts),

@@ -14,14 +14,14 @@ use graphs::Node;
 use sets::{join, less, lowest, meet, rest, size, with, without};
 
 // H: its vertices, and for each the vertices that an edge of H joins it to.
-#[derive(Drop)]
+#[derive(Clone, Copy)]
 pub struct Sub {
     pub set: u64,
     pub near: [u64; 64],
 }
 
 // The live vertices that are not adjacent to some member of a set, and those that are not adjacent to two.
-#[derive(Drop)]
+#[derive(Clone, Copy)]
 pub struct Lack {
     pub once: u64,
     pub twice: u64,

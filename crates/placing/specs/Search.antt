@@ -11,7 +11,7 @@
 --   put c j               : c, with the next entry in group j
 --   become c s            : the full placing c becomes the best
 --   search clash left c s : the search from the node c, where `left` entries are still to be placed, from s
---   placing_search n clash: the whole search of a list
+--   placing_search n clash : the whole search of a list
 --   nodes_from clash left c: how many nodes a search from c has that never goes back
 --
 -- Assumes nothing.

@@ -10,7 +10,7 @@ use clashes::{Verdict, validity};
 use sets::{meet, with};
 
 // The answer: accepted, with the fewest groups and the nodes entered; or refused, with the row at fault or the nodes entered.
-#[derive(Drop)]
+#[derive(Clone, Copy)]
 pub enum Answer {
     Accepted(usize, u64),
     Many,

@@ -12,7 +12,7 @@ ghost use Rattle.removing.specs.Words.{Entries, Listed, Sharing, goes_of, Shrank
 use sets::{below, less, lowest, meet, rest, size, without};
 
 // Who goes next, if anyone does, and the other entry that is noted: itself, where it goes by the second rule.
-#[derive(Drop)]
+#[derive(Clone, Copy)]
 struct Goes {
     pub found: bool,
     pub who: usize,

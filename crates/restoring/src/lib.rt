@@ -13,7 +13,7 @@ use removing::Shrunk;
 use sets::{lowest, meet, rest, with};
 
 // Groups of those who are present: how many, each entry's, and each group's members.
-#[derive(Drop)]
+#[derive(Clone, Copy)]
 pub struct Seats {
     pub many: usize,
     pub group: [u8; 64],

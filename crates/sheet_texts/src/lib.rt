@@ -12,7 +12,7 @@ ghost use Rattle.sheet_texts.specs.Promise.{numbers_of_lem, WritePromise};
 use refusals::Refusal;
 
 // The text's length; or document 01's refusals 1, 38 (with the lowest index at fault) and 19.
-#[derive(Drop)]
+#[derive(Clone, Copy)]
 pub enum Written {
     Length(usize),
     Many,
@@ -29,14 +29,14 @@ pub struct Numbers {
 }
 
 // How many group numbers are used, each by first use from 0; or the lowest index at which one is not.
-#[derive(Drop)]
+#[derive(Clone, Copy)]
 pub enum Numbering {
     Used(usize),
     Wrong(usize),
 }
 
 // A sheet's bytes, and how many there are.
-#[derive(Drop)]
+#[derive(Clone, Copy)]
 pub struct Composed {
     pub bytes: [u8; 768],
     pub length: usize,

@@ -13,7 +13,7 @@ ghost use Rattle.sheets.specs.Place.{part_at, PlacePromise};
 use refusals::Refusal;
 
 // Document 01's refusals of a sheet, 18 and 30 to 37, by their names.
-#[derive(Drop)]
+#[derive(Clone, Copy)]
 pub enum SheetFault {
     Long,
     Line,
@@ -28,7 +28,7 @@ pub enum SheetFault {
 
 // Accepted, with k; refused for the list, with its own refusal, line and column; too few colour bytes; or refused for the sheet, with
 // its line (0 where none is named).
-#[derive(Drop)]
+#[derive(Clone, Copy)]
 pub enum Checked {
     Accepted(usize),
     Unread(lists::Fault, usize, usize),
@@ -37,7 +37,7 @@ pub enum Checked {
 }
 
 // What a check found: the answer, and how many entries an accepted pair has and the group number of each (else 0).
-#[derive(Drop)]
+#[derive(Clone, Copy)]
 pub struct Outcome {
     pub answer: Checked,
     pub entries: usize,
@@ -55,7 +55,7 @@ pub struct Numbers {
 }
 
 // A part of one of the two texts: which text, by `Numbers`, the place of its first byte, and its length.
-#[derive(Drop)]
+#[derive(Clone, Copy)]
 pub struct Part {
     pub text: usize,
     pub start: usize,
@@ -75,7 +75,7 @@ pub struct Progress {
 }
 
 // What a line does: a fault, a count, or a member, with its group's number.
-#[derive(Drop)]
+#[derive(Clone, Copy)]
 pub enum Step {
     Stop(SheetFault),
     Count(Progress),

@@ -12,7 +12,7 @@ use sheets::Checked;
 use walk::Answer;
 
 #[repr(C)]
-#[derive(Drop)]
+#[derive(Clone, Copy)]
 pub struct VerdictNumbers {
     pub refusal: usize,
     pub row: usize,
@@ -20,7 +20,7 @@ pub struct VerdictNumbers {
 
 // `members` is the clique's set: bit i where entry i is in it.
 #[repr(C)]
-#[derive(Drop)]
+#[derive(Clone, Copy)]
 pub struct BoundNumbers {
     pub refusal: usize,
     pub row: usize,
@@ -30,7 +30,7 @@ pub struct BoundNumbers {
 
 // `clique` is the set of the starting graph's clique, as in `BoundNumbers`.
 #[repr(C)]
-#[derive(Drop)]
+#[derive(Clone, Copy)]
 pub struct WalkNumbers {
     pub refusal: usize,
     pub row: usize,
@@ -42,7 +42,7 @@ pub struct WalkNumbers {
 
 // `column` is 0 unless the refusal is one of a line's shape: 10, 21, 22 or 23. So in `CheckNumbers` and `MendNumbers`.
 #[repr(C)]
-#[derive(Drop)]
+#[derive(Clone, Copy)]
 pub struct ReadNumbers {
     pub refusal: usize,
     pub line: usize,
@@ -52,7 +52,7 @@ pub struct ReadNumbers {
 
 // Of writing a list, a sheet or an answer: `place` is the row, or the index of a colour byte.
 #[repr(C)]
-#[derive(Drop)]
+#[derive(Clone, Copy)]
 pub struct WriteNumbers {
     pub refusal: usize,
     pub place: usize,
@@ -61,7 +61,7 @@ pub struct WriteNumbers {
 
 // `text` says which text is at fault: 0 for none, 1 for the list, 2 for the sheet.
 #[repr(C)]
-#[derive(Drop)]
+#[derive(Clone, Copy)]
 pub struct CheckNumbers {
     pub refusal: usize,
     pub line: usize,
@@ -72,7 +72,7 @@ pub struct CheckNumbers {
 
 // `text` as in `CheckNumbers`; `length` is that of report and mended sheet together.
 #[repr(C)]
-#[derive(Drop)]
+#[derive(Clone, Copy)]
 pub struct MendNumbers {
     pub refusal: usize,
     pub line: usize,
@@ -83,7 +83,7 @@ pub struct MendNumbers {
 
 // A part of the text that `text` names, as in `CheckNumbers`: the place of its first byte, and its length.
 #[repr(C)]
-#[derive(Drop)]
+#[derive(Clone, Copy)]
 pub struct PartNumbers {
     pub text: usize,
     pub start: usize,

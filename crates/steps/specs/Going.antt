@@ -2,7 +2,7 @@
 -- `cap` is how many entries such rows hold, 64 a word.
 --
 --   Lent, lending         : what is lent to a walk
---   node_in words n live l: the node that is held there: rows are read by their words, names are a forest
+--   node_in words n live l : the node that is held there: rows are read by their words, names are a forest
 --   state_of n best s     : the described walk's state that s and the lent best hold, for n entries
 --   outcome n best s      : that state, or none where s is out
 --   Fair n best s         : s's number of groups is that of the best division, and no more complete graphs are met than nodes entered

@@ -29,7 +29,7 @@ pub struct State {
 }
 
 // A walk's state, and how many pairs it has put on the trail.
-#[derive(Drop)]
+#[derive(Clone, Copy)]
 struct Looped {
     pub state: State,
     pub more: usize,

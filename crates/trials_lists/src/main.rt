@@ -205,7 +205,7 @@ fn texts(rt: &impl Print, file: &[u8]) -> io::Result<()> {
 
 fn main(rt: HostRuntime) -> io::Result<()> {
     let mut file = room_for_texts();
-    let len = trials::read_full(&rt, &mut file)?;
+    let len = trials::read_full(&rt, &mut file);
     texts(&rt, &file[..len])?;
     let none = [0u64; 0];
     written(&rt, &none)?;

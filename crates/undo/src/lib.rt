@@ -13,7 +13,7 @@ use sets::{lowest, rest};
 use wide::{Set, join, less, mark, meet, put_row, row_of, unmark};
 
 // What a merging needs to be undone: the row of u as it was, and who got u for a neighbour.
-#[derive(Drop)]
+#[derive(Clone, Copy)]
 pub struct Undo {
     pub old: Set,
     pub near: Set,

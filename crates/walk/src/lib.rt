@@ -12,7 +12,7 @@ use steps::{State, bounded_walk, plain_walk};
 
 // The answer of a walk: accepted, with the fewest groups, the nodes entered, the plain walk's complete graphs and the clique of the starting graph; or
 // refused, with the row at fault or the nodes entered.
-#[derive(Drop)]
+#[derive(Clone, Copy)]
 pub enum Answer {
     Accepted(usize, u64, u64, u64),
     Many,
@@ -24,7 +24,7 @@ pub enum Answer {
 }
 
 // May the walk start? If not, why.
-#[derive(Drop)]
+#[derive(Clone, Copy)]
 enum Gate {
     Open,
     Shut(Answer),

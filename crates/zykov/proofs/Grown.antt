@@ -28,7 +28,7 @@ module _ (n : ℕ) where
 
   -- a complete graph, and a graph that splits
   module _ (P : Graph → Tree → Type 0) (at_leaf : (g : Graph) → Good n g → pair n g ≡ none → P g (leaf g))
-      (at_Fork : (g : Graph) (u v : ℕ) → Good n g → pair n g ≡ some (u, v) → Chosen n g u v → (l r : Tree) → P (merge u v g) l → P (separate u v g) r → P g (fork g l r)) where
+      (at_fork : (g : Graph) (u v : ℕ) → Good n g → pair n g ≡ some (u, v) → Chosen n g u v → (l r : Tree) → P (merge u v g) l → P (separate u v g) r → P g (fork g l r)) where
     grown_ind : (i : ℕ) (g : Graph) → Good n g → missing n g < i → P g (grown n i g)
     unfolding grown
     grown_ind zero g k p = absurd (not-suc-le-zero p)
@@ -38,7 +38,7 @@ module _ (n : ℕ) where
         go none e r = at_leaf g k e
         go (some w) e r =
             let c = pair_chosen n g w.0 w.1 k e in
-            at_Fork g w.0 w.1 k e c (grown n i (merge w.0 w.1 g)) (grown n i (separate w.0 w.1 g))
+            at_fork g w.0 w.1 k e c (grown n i (merge w.0 w.1 g)) (grown n i (separate w.0 w.1 g))
             (r (merge w.0 w.1 g) (good_merge g w.0 w.1 k c) (merge_fewer g w.0 w.1 k c))
             (r (separate w.0 w.1 g) (good_separate g w.0 w.1 k c) (separate_fewer g w.0 w.1 k c))
 
