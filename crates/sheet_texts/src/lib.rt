@@ -11,6 +11,9 @@ ghost use Rattle.sheet_texts.specs.Promise.{numbers_of_lem, WritePromise};
 
 use refusals::Refusal;
 
+// No list has more entries.
+const MOST: usize = 64;
+
 // The text's length; or document 01's refusals 1, 38 (with the lowest index at fault) and 19.
 #[derive(Clone, Copy)]
 pub enum Written {
@@ -145,7 +148,7 @@ pub fn compose(colours: &[u8], k: usize) -> Composed
 pub fn write_sheet(colours: &[u8], out: &mut [u8]) -> Written
     ensures { WritePromise colours.now out.old result out.new }
 {
-    if 64 < colours.len() {
+    if MOST < colours.len() {
         return Written::Many;
     }
     match number(colours) {

@@ -11,19 +11,19 @@ use Rattle.sheet_texts.proofs.Writes.{wrote_many, wrote_wrong, wrote_full, wrote
 use borrow.Author.Rules.{rules}
 use Rattle.sheet_texts.proofs.write_sheet.Goals as goal
 
-pub returns-then-colours-gt64 : goal.returns-then-colours-gt64
-returns-then-colours-gt64 c = wrote_many most_entries c.args.colours.now c.args.out.now c.if-colours-gt64.true
+pub returns-then-colours-gt-MOST : goal.returns-then-colours-gt-MOST
+returns-then-colours-gt-MOST c = wrote_many most_entries c.args.colours.now c.args.out.now c.if-colours-gt-MOST.true
 
 pub compose-text-requires : goal.compose-text-requires
 compose-text-requires c =
     let w = used_is 0 0 c.args.colours.now _
     (sym c.number.ensures ∙ c.in-Used.is) in
-    (c.if-colours-gt64.false, w.0, w.1)
+    (c.if-colours-gt-MOST.false, w.0, w.1)
 
 pub returns-then-out-n : goal.returns-then-out-n
 returns-then-out-n c =
     wrote_full most_entries c.args.colours.now
-    c.args.out.now c.if-colours-gt64.false _
+    c.args.out.now c.if-colours-gt-MOST.false _
     (sym c.number.ensures ∙ c.in-Used.is) _ c.compose-text.ensures.1 c.if-out-n.true
 
 pub slice_bounds-bytes-end : goal.slice_bounds-bytes-end
@@ -38,14 +38,14 @@ put_word-length-requires c = omega (arith, ap length c.compose-text.ensures.2, c
 pub returns-in-Wrong : goal.returns-in-Wrong
 returns-in-Wrong c =
     wrote_wrong most_entries c.args.colours.now
-    c.args.out.now c.if-colours-gt64.false _
+    c.args.out.now c.if-colours-gt-MOST.false _
     (sym c.number.ensures ∙ c.in-Wrong.is)
 
 pub returns-else-out-n : goal.returns-else-out-n
 returns-else-out-n c =
     wrote_all most_entries c.args.colours.now
     c.args.out.now
-    c.if-colours-gt64.false _
+    c.if-colours-gt-MOST.false _
     (sym c.number.ensures
     ∙ c.in-Used.is) _
     c.compose-text.ensures.1 _ _ c.if-out-n.false
