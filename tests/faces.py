@@ -51,9 +51,8 @@ if len(names) != len(refusals) or len(numbers) != len(refusals):
     wrong.append("bindings/interface.txt: a number or a name stands twice")
 
 # The proved table
-number = text("crates/refusals/src/lib.rt").split("pub fn number(")[1].split("\n}\n")[0]
-proved = dict(re.findall(r"Refusal::(\w+) => (\d+),", number))
-compare("bindings/interface.txt against crates/refusals", numbers, {name: int(number) for name, number in proved.items()})
+table = text("crates/refusals/src/lib.rt").split("pub enum Refusal {")[1].split("\n}\n")[0]
+compare("bindings/interface.txt against crates/refusals", numbers, variants(table))
 told = {"nothing": "-", "a_row": "row", "the_nodes": "nodes", "a_line": "line", "a_spot": "spot", "an_index": "index"}
 table = re.findall(r"^entry (\w+) = row (\d+) (\w+)$", text("crates/refusals/specs/Table.antt"), re.M)
 compare("bindings/interface.txt against crates/refusals/specs/Table.antt", beside, {name: told.get(also, also) for name, _, also in table})

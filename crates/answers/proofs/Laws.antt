@@ -7,14 +7,14 @@ use mathlib.Core.List.{List, [], ◌∷◌, ◌++◌}
 use mathlib.Core.Bool.{Bool, true, false, cond}
 use native.Mathlib.Decide.{dec_lt}
 use native.Mathlib.Omega.{arith}
-use types.Run.{OneOf, miss}
-use denote.Enum.Declared.{tag_of}
 use borrow.Author.Tests.{le-leb, lt-leb, leb-true, ne_eqb}
 use lib.Dec.{T, eqb, ltb}
 use lib.ListN.{length, take, length-append}
+use Rattle.std.specs.Prelude.{Result, Ok, Err}
 use Rattle.refusals.specs.Table.{Beside, nothing, a_row, the_nodes, a_line, a_spot, an_index, entry, number_of, with, told, told_at}
 use Rattle.refusals.specs.declared.Refusal.{Refusal}
 use Rattle.refusals.specs.declared.Refusal.TheVariants as refusal
+use Rattle.refusals.specs.declared.Unsolved.{Unsolved}
 use Rattle.refusals.proofs.TableLaws.{table_rule}
 use Rattle.lines.specs.Text.{Text, done, unended, ended, lines_of, feed, line_count, Within}
 use Rattle.lines.specs.Numeral.{numeral, one_line, over, Put}
@@ -24,18 +24,15 @@ use Rattle.lines.proofs.Writing.{one_length}
 use Rattle.clashes.specs.Matrix.{matrix, Sound}
 use Rattle.bounds.specs.Names.{mycielskian}
 use Rattle.zykov.specs.Walk.{State, bounded_walk_lem}
-use Rattle.walk.specs.Promise.{Open, Promised}
-use Rattle.walk.specs.declared.Answer.{Answer}
-use Rattle.walk.specs.declared.Answer.TheVariants.{Accepted}
-use Rattle.walk.specs.contracts.Answer.{the_type}
+use Rattle.walk.specs.Promise.{Open, Promised, whole}
+use Rattle.walk.specs.declared.found.Fewest.{Fewest}
 use Rattle.walk.proofs.Demands.{accepted_within}
-use Rattle.lists.specs.Read.{most_entries, longest_text, no_rows_up_to, read_from_up_to, refused_up_to, start, read_of}
+use Rattle.lists.specs.Read.{most_entries, longest_text, no_rows_up_to, read_from_up_to, refused as unreadable, start, read_of, answer_in}
 use Rattle.lists.specs.Promise.{refusal_of_lem}
-use Rattle.lists.specs.declared.Found.{Found}
+use Rattle.lists.specs.declared.Gathered.{Gathered}
+use Rattle.lists.specs.declared.Unread.{Unread}
 use Rattle.lists.specs.declared.Fault.{Fault}
 use Rattle.lists.specs.declared.Fault.TheVariants.{Line, Headless, Second, Size, Vertex, Loop, Count, Room, Long, Repeat, Digit, Space, Unended}
-use Rattle.lists.specs.declared.Reading.{Reading}
-use Rattle.lists.specs.declared.Reading.TheVariants.{Read, Refused}
 use Rattle.lists.specs.Expect.{of_shape}
 use Rattle.lists.proofs.Widths.{read_column}
 use Rattle.lists.proofs.Lines.{Named, Names, read_names}
@@ -43,21 +40,25 @@ use Rattle.lists.proofs.ReadSound.{read_sound}
 use Rattle.lists.proofs.Fold.{Bounded, read_up_to_few}
 use Rattle.sheet_texts.specs.Sheet.{sheet_text}
 use Rattle.answers.specs.Printed.{budget, refused_word, line_word, column_word, line_text, spot_text, told_text, place_text, refused_text, rows_text, read_text, printed, Writes}
-use Rattle.answers.specs.declared.Printed.TheVariants.{Length, Full}
+use Rattle.answers.specs.declared.Full.{Full}
 
 -- ---- a composed text
 
-pub wrote : (x old new : List ℕ) (m : ℕ) → length x ≤ length old → Put old 0 x new m → Writes x old (Length m) new
+-- what is answered where it does not fit
+abbrev pub no_room : Result ℕ Full
+no_room = Err (record {})
+
+pub wrote : (x old new : List ℕ) (m : ℕ) → length x ≤ length old → Put old 0 x new m → Writes x old (Ok m) new
 wrote x old new m h p =
     let e : m ≡ length x = omega (arith, p.0) in
     record {
-      answer = ap Length e ∙ sym (ap (λ (b : Bool). cond b (Length (length x)) Full) (le-leb (length x) (length old) h));
+      answer = ap Ok e ∙ sym (ap (λ (b : Bool). cond b (Ok (length x)) no_room) (le-leb (length x) (length old) h));
       lent = p.1 ∙ sym (ap (λ (b : Bool). cond b (over old 0 x) old) (le-leb (length x) (length old) h));
     }
 
-pub full : (x old : List ℕ) → length old < length x → Writes x old Full old
+pub full : (x old : List ℕ) → length old < length x → Writes x old no_room old
 full x old h = record {
-  answer = sym (ap (λ (b : Bool). cond b (Length (length x)) Full) (lt-leb (length x) (length old) h));
+  answer = sym (ap (λ (b : Bool). cond b (Ok (length x)) no_room) (lt-leb (length x) (length old) h));
   lent = sym (ap (λ (b : Bool). cond b (over old 0 x) old) (lt-leb (length x) (length old) h));
 }
 
@@ -107,23 +108,6 @@ line_told r k = go (entry r).beside
     go a_spot = omega arith
     go an_index = omega arith
 
-pub line_small : (plain : Bool) (s : List ℕ) (room : ℕ) (f : Fault) (k c : ℕ) (r : Refusal) → (read_of plain s room).answer ≡ Refused f k c
-    → (told r k).line < 10000000
-line_small plain s room f k c r e = go (dec_lt longest_text (length s))
-  where
-    names : Named false (lines_of s) f k
-    names = subst (Names (lines_of s)) e (read_names plain most_entries longest_text s room)
-
-    -- 18 names no line
-    go : Dec (longest_text < length s) → (told r k).line < 10000000
-    go (yes h) =
-        let q : Refused Long 0 0 ≡ Refused f k c = sym
-        (ap (λ (b : Bool). (cond b (read_from_up_to plain most_entries (lines_of s) room 1 start (no_rows_up_to most_entries)) (refused_up_to most_entries Long 0)
-        ).answer) (lt-leb (length s) longest_text h)) ∙ e in
-        let z : 0 ≡ k = cc in
-        omega (arith, line_told r k)
-    go (no h) = omega (arith, line_told r k, named_most (lines_of s) f k names, lines_most s)
-
 column_told : (r : Refusal) (c : ℕ) → (told_at r 0 c).column ≤ c
 column_told r c = go (entry r).beside
   where
@@ -135,20 +119,46 @@ column_told r c = go (entry r).beside
     go a_spot = omega arith
     go an_index = omega arith
 
--- no line has more than 65,536 bytes
-pub column_small : (plain : Bool) (s : List ℕ) (room : ℕ) (f : Fault) (k c : ℕ) (r : Refusal) → (read_of plain s room).answer ≡ Refused f k c
-    → (told_at r 0 c).column < 10000000
-column_small plain s room f k c r e = go (dec_lt longest_text (length s))
-  where
-    go : Dec (longest_text < length s) → (told_at r 0 c).column < 10000000
-    go (yes h) =
-        let q : Refused Long 0 0 ≡ Refused f k c =
-        sym (ap (λ (b : Bool). (cond b (read_from_up_to plain most_entries (lines_of s) room 1 start (no_rows_up_to most_entries)) (refused_up_to most_entries Long 0)
-        ).answer)
-        (lt-leb (length s) longest_text h)) ∙ e in
-        let z : 0 ≡ c = cc in
-        omega (arith, column_told r c)
-    go (no h) = omega (arith, column_told r c, (read_column plain most_entries longest_text s room f k c e).0)
+-- a text that is too long: 18, which names no line
+too_long : (plain : Bool) (s : List ℕ) (room : ℕ) → longest_text < length s → read_of plain s room ≡ unreadable Long 0
+too_long plain s room h =
+    ap (λ (b : Bool). cond b (read_from_up_to plain most_entries (lines_of s) room 1 start (no_rows_up_to most_entries)) (unreadable Long 0)) (lt-leb (length s) longest_text h)
+
+-- what was gathered is refused as the text is
+pub unread_in : (x : Result Gathered Unread) (u : Unread) → answer_in x ≡ Err u → x ≡ Err u
+unread_in (Ok list) u e = let z : ◌≡◌ {A = ℕ} 0 1 = cc in absurd (omega arith)
+unread_in (Err v) u e = let z : v ≡ u = cc in ap Err z
+
+abbrev line_in : Result Gathered Unread → ℕ
+line_in (Ok list) = 0
+line_in (Err u) = u.line
+
+abbrev column_in : Result Gathered Unread → ℕ
+column_in (Ok list) = 0
+column_in (Err u) = u.column
+
+module _ (plain : Bool) (s : List ℕ) (room : ℕ) (u : Unread) (r : Refusal) (e : read_of plain s room ≡ Err u) where
+  pub line_small : (told r u.line).line < 10000000
+  line_small = go (dec_lt longest_text (length s))
+    where
+      names : Named false (lines_of s) u.why u.line
+      names = subst (Names (lines_of s)) (ap answer_in e) (read_names plain most_entries longest_text s room)
+
+      go : Dec (longest_text < length s) → (told r u.line).line < 10000000
+      go (yes h) =
+          let z : 0 ≡ u.line = ap line_in (sym (too_long plain s room h) ∙ e) in
+          omega (arith, line_told r u.line)
+      go (no h) = omega (arith, line_told r u.line, named_most (lines_of s) u.why u.line names, lines_most s)
+
+  -- no line has more than 65,536 bytes
+  pub column_small : (told_at r 0 u.column).column < 10000000
+  column_small = go (dec_lt longest_text (length s))
+    where
+      go : Dec (longest_text < length s) → (told_at r 0 u.column).column < 10000000
+      go (yes h) =
+          let z : 0 ≡ u.column = ap column_in (sym (too_long plain s room h) ∙ e) in
+          omega (arith, column_told r u.column)
+      go (no h) = omega (arith, column_told r u.column, (read_column plain most_entries longest_text s room u (ap answer_in e)).0)
 
 -- ---- the line of a refusal
 
@@ -194,36 +204,31 @@ text_told Long k c h = refl
 
 -- ---- what is printed for a text
 
-module _ (plain : Bool) (s : List ℕ) (x : Found) (e : x ≡ read_of plain s 64) where
-  found_is : printed plain s ≡ read_text x.answer x.rows
+module _ (plain : Bool) (s : List ℕ) (list : Gathered) (e : read_of plain s 64 ≡ Ok list) where
+  pub printed_read : printed plain s ≡ rows_text (take list.n list.rows)
   unfolding printed
-  found_is = sym (ap (λ (f : Found). read_text f.answer f.rows) e)
+  printed_read = ap read_text e
 
-  pub printed_read : (n : ℕ) → x.answer ≡ Read n → printed plain s ≡ rows_text (take n x.rows)
-  printed_read n h = found_is ∙ ap (λ (a : Reading). read_text a x.rows) h
+  pub list_sound : Sound (take list.n list.rows)
+  list_sound = read_sound plain s 64 list e
 
-  pub printed_refused : (f : Fault) (k c : ℕ) → x.answer ≡ Refused f k c → printed plain s ≡ told_text (refusal_of_lem f) k c
-  printed_refused f k c h = found_is ∙ ap (λ (a : Reading). read_text a x.rows) h
+  pub list_few : list.n ≤ 64
+  list_few = subst (Bounded 64) (ap answer_in e) (read_up_to_few plain most_entries longest_text s 64)
+
+module _ (plain : Bool) (s : List ℕ) (u : Unread) (e : read_of plain s 64 ≡ Err u) where
+  pub printed_refused : printed plain s ≡ told_text (refusal_of_lem u.why) u.line u.column
+  unfolding printed
+  printed_refused = ap read_text e
 
   -- by its numbers
-  pub printed_numbers : (f : Fault) (k c : ℕ) → x.answer ≡ Refused f k c
-      → printed plain s ≡ refused_text (number_of (refusal_of_lem f)) (told (refusal_of_lem f) k).line (told_at (refusal_of_lem f) 0 c).column
-  printed_numbers f k c h =
-      printed_refused f k c h
-      ∙ text_told f k c (read_column plain most_entries longest_text s 64 f k c (ap (λ (f : Found). f.answer) (sym e) ∙ h)).1
-
-  pub list_sound : (n : ℕ) → x.answer ≡ Read n → Sound (take n x.rows)
-  list_sound n h = subst (λ (f : Found). Sound (take n f.rows)) (sym e) (read_sound plain s 64 n (ap (λ (f : Found). f.answer) (sym e) ∙ h))
-
-  pub list_few : (n : ℕ) → x.answer ≡ Read n → n ≤ 64
-  list_few n h = subst (Bounded 64) (ap (λ (f : Found). f.answer) (sym e) ∙ h) (read_up_to_few plain most_entries longest_text s 64)
+  pub printed_numbers : printed plain s
+      ≡ refused_text (number_of (refusal_of_lem u.why)) (told (refusal_of_lem u.why) u.line).line (told_at (refusal_of_lem u.why) 0 u.column).column
+  printed_numbers = printed_refused ∙ text_told u.why u.line u.column (read_column plain most_entries longest_text s 64 u (ap answer_in e)).1
 
 -- 18 is printed alike for each text that is too long
 pub printed_long : (plain : Bool) (s : List ℕ) → longest_text < length s → printed plain s ≡ refused_text (number_of refusal.Long) 0 0
 unfolding printed
-printed_long plain s h =
-    ap (λ (b : Bool). let f = cond b (read_from_up_to plain most_entries (lines_of s) 64 1 start (no_rows_up_to most_entries)) (refused_up_to most_entries Long 0) in read_text f.answer f.rows)
-    (lt-leb (length s) longest_text h)
+printed_long plain s h = ap read_text (too_long plain s 64 h)
 
 -- ---- what is printed for a list
 
@@ -234,10 +239,10 @@ module _ (rows before : List ℕ) where
   abbrev spent : List ℕ
   spent = refused_text (number_of refusal.Budget) 0 0
 
-  pub rows_accepted : (k m l c : ℕ) (after : List ℕ) → Promised (bounded_walk_lem mycielskian) rows before budget (Accepted k m l c) after
+  pub rows_accepted : (f : Fewest) (after : List ℕ) → Promised (bounded_walk_lem mycielskian) rows before budget (Ok f) after
       → rows_text rows ≡ sheet_text (take (length rows) after)
   unfolding rows_text
-  rows_accepted k m l c after p =
+  rows_accepted f after p =
       ap (λ (b : Bool). cond b (sheet_text w.best) spent) (le-leb w.nodes budget (omega (arith, p.count, p.paid))) ∙ ap sheet_text (sym p.best)
 
   pub rows_spent : budget < w.nodes → rows_text rows ≡ spent
@@ -245,14 +250,13 @@ module _ (rows before : List ℕ) where
   rows_spent h = ap (λ (b : Bool). cond b (sheet_text w.best) spent) (lt-leb w.nodes budget h)
 
   -- a walk over the rows of a list that is not accepted is refused for effort
-  pub rows_refused : Open rows (length before) → (a : Answer) (after : List ℕ) → Promised (bounded_walk_lem mycielskian) rows before budget a after
-      → OneOf (1 ∷ 2 ∷ 3 ∷ 4 ∷ 5 ∷ 6 ∷ []) (tag_of the_type a) → rows_text rows ≡ spent
-  rows_refused opened a after p tag = go (dec_lt budget w.nodes)
+  pub rows_refused : Open rows (length before) → (e : Unsolved) (after : List ℕ) → Promised (bounded_walk_lem mycielskian) rows before budget (Err e) after
+      → rows_text rows ≡ spent
+  rows_refused opened e after p = go (dec_lt budget w.nodes)
     where
       go : Dec (budget < w.nodes) → rows_text rows ≡ spent
       go (yes h) = rows_spent h
       go (no h) =
-          absurd
-          (miss (1 ∷ 2 ∷ 3 ∷ 4 ∷ 5 ∷ 6 ∷ []) 0 tt
-          (subst (λ (x : Answer). OneOf (1 ∷ 2 ∷ 3 ∷ 4 ∷ 5 ∷ 6 ∷ []) (tag_of the_type x))
-          (accepted_within 64 (bounded_walk_lem mycielskian) rows before budget a after p opened (omega arith)) tag))
+          let q : Err e ≡ whole rows w = accepted_within 64 (bounded_walk_lem mycielskian) rows before budget (Err e) after p opened (omega arith) in
+          let z : ◌≡◌ {A = ℕ} 0 1 = cc in
+          absurd (omega arith)

@@ -12,7 +12,7 @@
 --   LongPromise old a new     : the same for each text that is too long, by both readings
 --
 -- That the sheet is that of the fewest sittings, and what a refusal means, follows from what the calls promise (proofs/Calls.antt). Assumes nothing.
-use Rattle.std.specs.Prelude.{ℕ, ◌≤◌, ◌<◌, ◌≡◌, List, [], ◌∷◌, ◌++◌, Bool, cond, leb, eqb, length, take}
+use Rattle.std.specs.Prelude.{ℕ, ◌≤◌, ◌<◌, ◌≡◌, List, [], ◌∷◌, ◌++◌, Bool, cond, leb, eqb, length, take, Result, Ok, Err}
 use Rattle.refusals.specs.Table.{Beside, nothing, a_row, the_nodes, a_line, a_spot, an_index, Told, entry, told_at}
 use Rattle.refusals.specs.declared.Refusal.{Refusal}
 use Rattle.refusals.specs.declared.Refusal.TheVariants as refusal
@@ -22,12 +22,11 @@ use Rattle.zykov.specs.Walk.{State, bounded_walk_lem}
 use Rattle.lines.specs.Numeral.{numeral, one_line, over}
 use Rattle.lists.specs.Read.{longest_text, read_of}
 use Rattle.lists.specs.Promise.{refusal_of_lem}
-use Rattle.lists.specs.declared.Reading.{Reading}
-use Rattle.lists.specs.declared.Reading.TheVariants.{Read, Refused}
+use Rattle.lists.specs.declared.Gathered.{Gathered}
+use Rattle.lists.specs.declared.Unread.{Unread}
 use Rattle.sheet_texts.specs.Sheet.{sheet_text}
 use Rattle.sheet_texts.specs.declared.Composed.{Composed}
-use Rattle.answers.specs.declared.Printed.{Printed}
-use Rattle.answers.specs.declared.Printed.TheVariants.{Length, Full}
+use Rattle.answers.specs.declared.Full.{Full}
 
 abbrev pub budget : ℕ
 budget = 1000000
@@ -77,29 +76,29 @@ walk_text w =
 unfoldable pub rows_text : List ℕ → List ℕ
 rows_text rows = walk_text (bounded_walk_lem mycielskian (length rows) (matrix rows))
 
-abbrev pub read_text : Reading → List ℕ → List ℕ
-read_text (Read n) rows = rows_text (take n rows)
-read_text (Refused f k c) rows = told_text (refusal_of_lem f) k c
+abbrev pub read_text : Result Gathered Unread → List ℕ
+read_text (Ok list) = rows_text (take list.n list.rows)
+read_text (Err u) = told_text (refusal_of_lem u.why) u.line u.column
 
 -- with 64 rows to read into, so that 17 cannot arise
 unfoldable pub printed : Bool → List ℕ → List ℕ
-printed plain s = read_text (read_of plain s 64).answer (read_of plain s 64).rows
+printed plain s = read_text (read_of plain s 64)
 
 pub record IsText (x : List ℕ) (t : Composed) : Type 0 where
   pub fits : t.length ≤ 768
   pub long : t.length ≡ length x
   pub is : take t.length t.bytes ≡ x
 
-pub record Writes (x old : List ℕ) (a : Printed) (new : List ℕ) : Type 0 where
-  pub answer : a ≡ cond (leb (length x) (length old)) (Length (length x)) Full
+pub record Writes (x old : List ℕ) (a : Result ℕ Full) (new : List ℕ) : Type 0 where
+  pub answer : a ≡ cond (leb (length x) (length old)) (Ok (length x)) (Err (record {}))
   pub lent : new ≡ cond (leb (length x) (length old)) (over old 0 x) old
 
 -- what `fit` promises of any composed text
-abbrev pub Fitted : Composed → List ℕ → Printed → List ℕ → Type 0
+abbrev pub Fitted : Composed → List ℕ → Result ℕ Full → List ℕ → Type 0
 Fitted t old a new = (x : List ℕ) → IsText x t → Writes x old a new
 
-abbrev pub AnswerPromise : Bool → List ℕ → List ℕ → Printed → List ℕ → Type 0
+abbrev pub AnswerPromise : Bool → List ℕ → List ℕ → Result ℕ Full → List ℕ → Type 0
 AnswerPromise plain s old a new = Writes (printed plain s) old a new
 
-abbrev pub LongPromise : List ℕ → Printed → List ℕ → Type 0
+abbrev pub LongPromise : List ℕ → Result ℕ Full → List ℕ → Type 0
 LongPromise old a new = (plain : Bool) (s : List ℕ) → longest_text < length s → AnswerPromise plain s old a new

@@ -6,23 +6,21 @@ ghost use Rattle.wide.specs.Words.{num, rows_of};
 ghost use Rattle.clashes.specs.Matrix.{Sound};
 ghost use Rattle.graphs.specs.Held.{view, Held, Holds, Each, HoldsAt, EachAt};
 ghost use Rattle.bounds.specs.Names.{clique_set, clique_bound_lem, mycielskian};
-ghost use Rattle.bounds.specs.Lent.{of_list, answer_of, no_members, Answers};
+ghost use Rattle.bounds.specs.Lent.{of_list, no_members, Answers};
 
-use clashes::{Verdict, validity};
+use clashes::validity;
 use cliques::clique;
 use graphs::{Node, root};
 use mycielski::{bound_among, bound_up_to};
+use refusals::Invalid;
 use sets::size;
 use wide::Set;
 
-// A bound of a lent matrix, with the members of the clique where it is that one's size; or document 01's refusals 1 to 4 with the lowest row at fault.
+// A bound of a lent matrix, with the members of the clique where it is that one's size.
 #[derive(Clone, Copy)]
-pub enum Bound {
-    At(usize, u64),
-    Many,
-    Stray(usize),
-    Itself(usize),
-    OneSided(usize),
+pub struct Bound {
+    pub size: usize,
+    pub members: u64,
 }
 
 // The clique of a list's graph, as the set of its members.
@@ -50,7 +48,7 @@ pub fn reaches(live: u64, rows: &[u64], best: usize) -> bool
     if size(live) < best {
         return false;
     }
-    best <= bound_among(live, rows, best)
+    best <= bound_among::<u64, 64>(live, rows, best)
 }
 
 // The same of lent rows of four words.
@@ -62,41 +60,26 @@ pub fn reaches_wide(live: Set, rows: &[u64], best: usize) -> bool
     if wide::size(live) < best {
         return false;
     }
-    best <= wide_mycielski::bound_among(live, rows, best)
+    best <= bound_among::<Set, 1024>(live, rows, best)
 }
 
-// The answer for rows that are no list, which has no bound.
-fn unbounded(v: Verdict) -> Bound
-    ensures { result ≡ answer_of v 0 0 }
-{
-    match v {
-        Verdict::Valid => Bound::At(0, 0),
-        Verdict::Many => Bound::Many,
-        Verdict::Stray(row) => Bound::Stray(row),
-        Verdict::Itself(row) => Bound::Itself(row),
-        Verdict::OneSided(row) => Bound::OneSided(row),
-    }
-}
-
-// The clique bound of a lent matrix, and the clique's members.
-pub fn clique_bound(rows: &[u64]) -> Bound
+// The clique bound of a lent matrix, and the clique's members; or document 01's refusals 1 to 4, with the lowest row at fault.
+pub fn clique_bound(rows: &[u64]) -> Result<Bound, Invalid>
     ensures { Answers clique_bound_lem clique_set rows.now result }
 {
-    let v = validity(rows);
-    if let Verdict::Valid = v {
-        let members = clique_of(rows);
-        return Bound::At(size(members), members);
-    }
-    unbounded(v)
+    validity(rows)?;
+    let members = clique_of(rows);
+    Ok(Bound {
+        size: size(members),
+        members,
+    })
 }
 
-// The Mycielskian bound of a lent matrix.
-pub fn mycielskian_bound(rows: &[u64]) -> Bound
+// The Mycielskian bound of a lent matrix, which has no members; or the same refusals.
+pub fn mycielskian_bound(rows: &[u64]) -> Result<Bound, Invalid>
     ensures { Answers mycielskian no_members rows.now result }
 {
-    let v = validity(rows);
-    if let Verdict::Valid = v {
-        return Bound::At(mycielskian_at(root(rows)), 0);
-    }
-    unbounded(v)
+    validity(rows)?;
+    let size = mycielskian_at(root(rows));
+    Ok(Bound { size, members: 0 })
 }

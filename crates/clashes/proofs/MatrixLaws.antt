@@ -13,14 +13,15 @@ use lib.Dec.{T, ltb→lt, lt→ltb, leb→le, le→leb, T_not, not_T}
 use lib.ListN.{length, get_or}
 use lib.Pow.{pow_pos, split}
 use borrow.Author.Tests.{lt-ltb, le-ltb}
+use Rattle.std.specs.Prelude.{Result, Ok, Err}
 use Rattle.sets.specs.Lists.{lowest}
 use Rattle.sets.specs.Set.{has, IsBelow, IsLess}
 use Rattle.sets.proofs.TestLaws.{and_l, and_r, and_t, any_get, any_make}
 use Rattle.sets.proofs.MemberLaws.{lowest_is, lowest_none}
 use Rattle.sets.proofs.SetLaws.{has_none, has_beyond, has_shifted, some_member}
-use Rattle.clashes.specs.Matrix.{matrix, Valid, HasStray, HasItself, HasOneSided, LowestRow, NoRow, FirstRow, InsideUpTo, ApartUpTo, SoundUpTo, JudgedUpTo, Judged, stray_at, itself_at, one_sided_at, refuse, judge_up_to, judge}
-use Rattle.clashes.specs.declared.Verdict.{Verdict}
-use Rattle.clashes.specs.declared.Verdict.TheVariants.{Valid as ok, Many, Stray, Itself, OneSided}
+use Rattle.clashes.specs.Matrix.{matrix, Valid, HasStray, HasItself, HasOneSided, LowestRow, NoRow, InsideUpTo, ApartUpTo, SoundUpTo, JudgedUpTo, Judged, stray_at, itself_at, one_sided_at, refuse, judge_up_to, judge}
+use Rattle.refusals.specs.declared.Invalid.{Invalid}
+use Rattle.refusals.specs.declared.Invalid.TheVariants.{Many, Stray, Itself, OneSided}
 
 -- ---- stray bits: what row i has besides the numbers below n
 
@@ -43,15 +44,6 @@ module _ (rows : List ℕ) (i all s : ℕ) (below : IsBelow (length rows) all) (
           go : Dec (j < length rows) → length rows ≤ j
           go (yes l) = absurd (T_not (has all j) u (subst T (sym (below j)) (lt→ltb j (length rows) l)))
           go (no f) = omega arith
-
--- ---- the first row at fault, or none
-
-module _ (P : ℕ → Type 0) (n i : ℕ) where
-  pub first_lowest : FirstRow P n i → i < n → LowestRow P n i
-  first_lowest f b = record { below = b; here = f.here b; before = f.earlier }
-
-  pub first_none : FirstRow P n i → n ≤ i → NoRow P n
-  first_none f b j l = f.earlier j (omega arith)
 
 -- ---- the tests say what they should
 
@@ -124,10 +116,10 @@ module _ (rows : List ℕ) where
   no_one_sided_at = at_none (one_sided_at rows) (HasOneSided rows) (test_one_sided rows) (one_sided_test rows) (length rows)
 
   -- the three searches, one behind the other
-  after_many : Option ℕ → Option ℕ → Option ℕ → Verdict
-  after_many s t o = refuse s Stray (refuse t Itself (refuse o OneSided ok))
+  after_many : Option ℕ → Option ℕ → Option ℕ → Result Unit Invalid
+  after_many s t o = refuse s Stray (refuse t Itself (refuse o OneSided (Ok tt)))
 
-  abbrev searched : Verdict
+  abbrev searched : Result Unit Invalid
   searched = after_many (lowest (stray_at rows) (length rows)) (lowest (itself_at rows) (length rows)) (lowest (one_sided_at rows) (length rows))
 
 module _ (most : ℕ) (rows : List ℕ) where
@@ -135,7 +127,7 @@ module _ (most : ℕ) (rows : List ℕ) where
       → judge_up_to most rows ≡ after_many rows s (lowest (itself_at rows) (length rows)) (lowest (one_sided_at rows) (length rows))
   unfolding after_many
   judge_few h s e =
-      ap (λ (b : Bool). cond b Many (searched rows)) (le-ltb most (length rows) h)
+      ap (λ (b : Bool). cond b (Err Many) (searched rows)) (le-ltb most (length rows) h)
       ∙ ap (λ (x : Option ℕ). after_many rows x (lowest (itself_at rows) (length rows)) (lowest (one_sided_at rows) (length rows))) e
 
   judge_inside : InsideUpTo most rows → (t : Option ℕ) → lowest (itself_at rows) (length rows) ≡ t
@@ -146,21 +138,21 @@ module _ (most : ℕ) (rows : List ℕ) where
   judge_apart : ApartUpTo most rows → (o : Option ℕ) → lowest (one_sided_at rows) (length rows) ≡ o → judge_up_to most rows ≡ after_many rows none none o
   judge_apart h o e = judge_inside h.inside none (no_itself_at rows h.no_itself) ∙ ap (after_many rows none none) e
 
-  pub judged_up_to_is : (a : Verdict) → JudgedUpTo most rows a → judge_up_to most rows ≡ a
+  pub judged_up_to_is : (a : Result Unit Invalid) → JudgedUpTo most rows a → judge_up_to most rows ≡ a
   unfolding after_many
-  judged_up_to_is ok p = judge_apart p.apart none (no_one_sided_at rows p.no_one_sided)
-  judged_up_to_is Many p = ap (λ (b : Bool). cond b Many (searched rows)) (lt-ltb most (length rows) p)
-  judged_up_to_is (Stray i) p = judge_few p.0 (some i) (stray-at rows i p.1)
-  judged_up_to_is (Itself i) p = judge_inside p.0 (some i) (itself-at rows i p.1)
-  judged_up_to_is (OneSided i) p = judge_apart p.0 (some i) (one-sided-at rows i p.1)
+  judged_up_to_is (Ok tt) p = judge_apart p.apart none (no_one_sided_at rows p.no_one_sided)
+  judged_up_to_is (Err Many) p = ap (λ (b : Bool). cond b (Err Many) (searched rows)) (lt-ltb most (length rows) p)
+  judged_up_to_is (Err (Stray i)) p = judge_few p.0 (some i) (stray-at rows i p.1)
+  judged_up_to_is (Err (Itself i)) p = judge_inside p.0 (some i) (itself-at rows i p.1)
+  judged_up_to_is (Err (OneSided i)) p = judge_apart p.0 (some i) (one-sided-at rows i p.1)
 
-  pub judged_up_to_unique : (a b : Verdict) → JudgedUpTo most rows a → JudgedUpTo most rows b → a ≡ b
+  pub judged_up_to_unique : (a b : Result Unit Invalid) → JudgedUpTo most rows a → JudgedUpTo most rows b → a ≡ b
   judged_up_to_unique a b p q = sym (judged_up_to_is a p) ∙ judged_up_to_is b q
 
-pub judged_is : (rows : List ℕ) (a : Verdict) → Judged rows a → judge rows ≡ a
+pub judged_is : (rows : List ℕ) (a : Result Unit Invalid) → Judged rows a → judge rows ≡ a
 judged_is = judged_up_to_is 64
 
-pub judged_unique : (rows : List ℕ) (a b : Verdict) → Judged rows a → Judged rows b → a ≡ b
+pub judged_unique : (rows : List ℕ) (a b : Result Unit Invalid) → Judged rows a → Judged rows b → a ≡ b
 judged_unique = judged_up_to_unique 64
 
 -- ---- a sound matrix is a valid list, and the other way round

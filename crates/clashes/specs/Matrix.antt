@@ -9,6 +9,7 @@
 --   LowestRow P n i    : i is the lowest row below n of which P holds
 --   NoRow P n          : P holds of no row below n
 --   FirstRow P n i     : i is the lowest row below n of which P holds, or n where there is none
+--   Lowest P n r       : r is the lowest row below n of which P holds, or none where there is none
 --   Sound rows         : no fault at all: not too many rows, no stray bit, no row with its own bit, every clash returned
 --   numbers a          : an answer in the numbers of document 01's table (crate refusals)
 --   Unsound rows r i   : what the refusal with the number r and the row i says is so
@@ -17,14 +18,14 @@
 --
 -- Each is stated for lists of up to `most` entries (`SoundUpTo most`, ..), a row being a natural number, and is then named for today's 64.
 -- Assumes nothing.
-use Rattle.std.specs.Prelude.{Bool, not, ◌&&◌, cond, List, ℕ, zero, ◌≤◌, ◌<◌, ◌^◌, T, leb, ltb, eqb, length, get_or}
-use Rattle.std.proofs.Math.Option.{Option, none, some}
+use Rattle.std.specs.Prelude.{Bool, not, ◌&&◌, cond, List, ℕ, zero, ◌≤◌, ◌<◌, ◌^◌, T, leb, ltb, eqb, length, get_or, Option, Some, None, Result, Ok, Err}
+use Rattle.std.proofs.Math.Option.{Option as MathOption, none, some}
 use Rattle.refusals.specs.Table.{Told, told, fine, accepted, number_of, If}
 use Rattle.refusals.specs.declared.Refusal.TheVariants as refusal
+use Rattle.refusals.specs.declared.Invalid.{Invalid}
+use Rattle.refusals.specs.declared.Invalid.TheVariants.{Many, Stray, Itself, OneSided}
 use Rattle.sets.specs.Lists.{any, lowest}
 use Rattle.sets.specs.Set.{has}
-use Rattle.clashes.specs.declared.Verdict.{Verdict}
-use Rattle.clashes.specs.declared.Verdict.TheVariants.{Valid as ok, Many, Stray, Itself, OneSided}
 
 abbrev pub matrix : List ℕ → ℕ → ℕ → Bool
 matrix rows x y = has (get_or rows x zero) y
@@ -55,13 +56,17 @@ pub record FirstRow (P : ℕ → Type 0) (n i : ℕ) : Type 0 where
   pub here : i < n → P i
   pub earlier : (j : ℕ) → j < i → ¬ P j
 
+abbrev pub Lowest : (ℕ → Type 0) → ℕ → Option ℕ → Type 0
+Lowest P n (Some i) = LowestRow P n i
+Lowest P n None = NoRow P n
+
 -- document 01's numbers
-abbrev pub numbers : Verdict → Told
-numbers ok = fine
-numbers Many = told refusal.Many 0
-numbers (Stray i) = told refusal.Stray i
-numbers (Itself i) = told refusal.Itself i
-numbers (OneSided i) = told refusal.OneSided i
+abbrev pub numbers : Result Unit Invalid → Told
+numbers (Ok u) = fine
+numbers (Err Many) = told refusal.Many 0
+numbers (Err (Stray i)) = told refusal.Stray i
+numbers (Err (Itself i)) = told refusal.Itself i
+numbers (Err (OneSided i)) = told refusal.OneSided i
 
 module _ (most : ℕ) where
   -- not too many rows, and no stray bit
@@ -88,7 +93,7 @@ module _ (most : ℕ) where
       (If (eqb number (number_of refusal.OneSided)) (ApartUpTo rows × LowestRow (HasOneSided rows) (length rows) i)
       ⊥)))
 
-  abbrev pub JudgedUpTo : List ℕ → Verdict → Type 0
+  abbrev pub JudgedUpTo : List ℕ → Result Unit Invalid → Type 0
   JudgedUpTo rows a = If (eqb (numbers a).number accepted) (SoundUpTo rows) (UnsoundUpTo rows (numbers a).number (numbers a).row)
 
 -- ---- computed
@@ -103,16 +108,16 @@ abbrev pub one_sided_at : List ℕ → ℕ → Bool
 one_sided_at rows i = any (length rows) (λ j. matrix rows i j && not (matrix rows j i))
 
 -- the refusal at the lowest row, or what comes next
-abbrev pub refuse : Option ℕ → (ℕ → Verdict) → Verdict → Verdict
+abbrev pub refuse : MathOption ℕ → (ℕ → Invalid) → Result Unit Invalid → Result Unit Invalid
 refuse none f next = next
-refuse (some i) f next = f i
+refuse (some i) f next = Err (f i)
 
-abbrev pub judge_up_to : ℕ → List ℕ → Verdict
+abbrev pub judge_up_to : ℕ → List ℕ → Result Unit Invalid
 judge_up_to most rows =
-    cond (ltb most (length rows)) Many
+    cond (ltb most (length rows)) (Err Many)
     (refuse (lowest (stray_at rows) (length rows)) Stray
     (refuse (lowest (itself_at rows) (length rows)) Itself
-    (refuse (lowest (one_sided_at rows) (length rows)) OneSided ok)))
+    (refuse (lowest (one_sided_at rows) (length rows)) OneSided (Ok tt))))
 
 -- ---- up to 64 entries
 
@@ -125,8 +130,8 @@ Apart rows = ApartUpTo 64 rows
 abbrev pub Sound : List ℕ → Type 0
 Sound rows = SoundUpTo 64 rows
 
-abbrev pub Judged : List ℕ → Verdict → Type 0
+abbrev pub Judged : List ℕ → Result Unit Invalid → Type 0
 Judged rows a = JudgedUpTo 64 rows a
 
-abbrev pub judge : List ℕ → Verdict
+abbrev pub judge : List ℕ → Result Unit Invalid
 judge rows = judge_up_to 64 rows

@@ -2,100 +2,83 @@
 #![tactic(auto)]
 
 ghost use Rattle.std.specs.Prelude.{◌≡◌, true, false, ◌<◌, ◌≤◌, length};
-ghost use Rattle.clashes.specs.Matrix.{HasStray, HasItself, HasOneSided, FirstRow, Judged};
+ghost use Rattle.clashes.specs.Matrix.{HasStray, HasItself, HasOneSided, Lowest, Judged};
 
+use refusals::Invalid;
 use sets::{below, has, less, lowest, meet, rest};
 
-// The answer for lent rows: document 01's numbers 1 to 4, with the lowest row at fault.
+// Rows that are not too many.
 #[derive(Clone, Copy)]
-pub enum Verdict {
-    Valid,
-    Many,
-    Stray(usize),
-    Itself(usize),
-    OneSided(usize),
+struct Few<'a> {
+    rows: &'a [u64],
+    ghost few: { length rows.now ≤ 64 },
 }
 
-// The lowest row with a bit at n or above, or n.
-fn first_stray(rows: &[u64]) -> usize
-    requires { length rows.now ≤ 64 }
-    ensures { FirstRow (HasStray rows.now) (length rows.now) result }
-{
-    let all = below(rows.len());
-    let mut i: usize = 0;
-    while i < rows.len() {
-        if less(rows[i], all) != 0 {
-            return i;
+impl Few<'_> {
+    // The lowest row with a bit at n or above.
+    fn first_stray(self) -> Option<usize>
+        ensures { Lowest (HasStray self.entry.rows.now) (length self.entry.rows.now) result }
+    {
+        let all = below(self.rows.len());
+        self.rows.iter().position(|&row| less(row, all) != 0)
+    }
+
+    // The lowest row with its own bit.
+    fn first_itself(self) -> Option<usize>
+        ensures { Lowest (HasItself self.entry.rows.now) (length self.entry.rows.now) result }
+    {
+        for (i, &row) in self.rows.iter().enumerate() {
+            if has(row, i) {
+                return Some(i);
+            }
         }
-        i += 1;
+        None
     }
-    i
-}
 
-// The lowest row with its own bit, or n.
-fn first_itself(rows: &[u64]) -> usize
-    requires { length rows.now ≤ 64 }
-    ensures { FirstRow (HasItself rows.now) (length rows.now) result }
-{
-    let mut i: usize = 0;
-    while i < rows.len() {
-        if has(rows[i], i) {
-            return i;
+    // Has row i a bit whose row lacks bit i? Then not all the rows of its bits have bit i.
+    fn is_one_sided(self, i: usize) -> bool
+        requires { i < length self.rows.now }
+        ensures { (result ≡ true → HasOneSided self.entry.rows.now i) × (result ≡ false → HasOneSided self.entry.rows.now i → ⊥) }
+    {
+        let mut all = below(64);
+        let mut left = meet(self.rows[i], below(self.rows.len()));
+        while left != 0 {
+            let j = lowest(left);
+            all = meet(all, self.rows[j]);
+            left = rest(left);
         }
-        i += 1;
+        !has(all, i)
     }
-    i
-}
 
-// Has row i a bit whose row lacks bit i? Then not all the rows of its bits have bit i.
-fn is_one_sided(rows: &[u64], i: usize) -> bool
-    requires { (length rows.now ≤ 64) × (i < length rows.now) }
-    ensures { (result ≡ true → HasOneSided rows.now i) × (result ≡ false → HasOneSided rows.now i → ⊥) }
-{
-    let mut all = below(64);
-    let mut left = meet(rows[i], below(rows.len()));
-    while left != 0 {
-        let j = lowest(left);
-        all = meet(all, rows[j]);
-        left = rest(left);
-    }
-    !has(all, i)
-}
-
-// The lowest row with a bit that is not returned, or n.
-fn first_one_sided(rows: &[u64]) -> usize
-    requires { length rows.now ≤ 64 }
-    ensures { FirstRow (HasOneSided rows.now) (length rows.now) result }
-{
-    let mut row: usize = 0;
-    while row < rows.len() {
-        if is_one_sided(rows, row) {
-            return row;
+    // The lowest row with a bit that is not returned.
+    fn first_one_sided(self) -> Option<usize>
+        ensures { Lowest (HasOneSided self.entry.rows.now) (length self.entry.rows.now) result }
+    {
+        for row in 0..self.rows.len() {
+            if self.is_one_sided(row) {
+                return Some(row);
+            }
         }
-        row += 1;
+        None
     }
-    row
 }
 
-// Is this the matrix of a clash list? If not, by which number, and at which row?
-pub fn validity(rows: &[u64]) -> Verdict
+// Is this the matrix of a clash list? If not, by which of document 01's refusals 1 to 4, and at which row?
+pub fn validity(rows: &[u64]) -> Result<(), Invalid>
     ensures { Judged rows.now result }
 {
-    let n = rows.len();
-    if 64 < n {
-        return Verdict::Many;
+    if 64 < rows.len() {
+        return Err(Invalid::Many);
     }
-    let stray = first_stray(rows);
-    let itself = first_itself(rows);
-    let lone = first_one_sided(rows);
-    if stray < n {
-        return Verdict::Stray(stray);
+    let few = Few { rows };
+    if let Some(row) = few.first_stray() {
+        return Err(Invalid::Stray(row));
     }
-    if itself < n {
-        return Verdict::Itself(itself);
+    if let Some(row) = few.first_itself() {
+        return Err(Invalid::Itself(row));
     }
-    if lone < n {
-        return Verdict::OneSided(lone);
+    if let Some(row) = few.first_one_sided() {
+        return Err(Invalid::OneSided(row));
     }
-    Verdict::Valid
+    Ok(())
 }

@@ -118,11 +118,11 @@ module _ {cap : ℕ} (h : Node) (k : HeldAt cap h) where
       le_trans (le_of_eq (size_length cap n g i.kept best k.few i.kept_is i.kept_set))
       (le_trans (larger_le i.kept (map (second n g) (chain g (λ x. not (has free x)) (vertices n g)))) (le_of_eq (ap length i.goal)))
 
-  pub near_live : (l : List ℕ) (c : Growth) → Grown n g l c → Within c.near h.live
+  pub near_live : (l : List ℕ) (c : Growth ℕ) → Grown n g l c → Within c.near h.live
   near_live l c e x t = subst T (sym (k.lives x)) (and_l (live n g x) (admits g l x) (subst T (e.near x) t))
 
   -- one turn
-  module _ (free best s free' : ℕ) (c : Growth) (i : Hunt free best) (w : IsLowest cap free s) (gc : Grown n g (opening n g s) c)
+  module _ (free best s free' : ℕ) (c : Growth ℕ) (i : Hunt free best) (w : IsLowest cap free s) (gc : Grown n g (opening n g s) c)
       (wf : IsLess free c.set free') where
     abbrev own : List ℕ
     own = opening n g s
@@ -209,7 +209,7 @@ module _ {cap : ℕ} (h : Node) (k : HeldAt cap h) where
             ]))
 
     -- it grows to d
-    module _ (d : Growth) (gd : GrowsAt cap n g c.near c d) where
+    module _ (d : Growth ℕ) (gd : GrowsAt cap n g c.near c d) where
       second_set : IsSetOf (second n g own) d.set
       second_set = subst (λ l. IsSetOf l d.set) second_is (gd own gc).members
 

@@ -91,7 +91,7 @@ module _ {cap : ℕ} (h : Node) (k : HeldAt cap h) where
       both true false = refl
       both false b = refl
 
-  pub grown_with : (l : List ℕ) (c : Growth) (v s m : ℕ) → Grown h.n g l c → T (has h.live v) → IsWith c.set v s
+  pub grown_with : (l : List ℕ) (c : Growth ℕ) (v s m : ℕ) → Grown h.n g l c → T (has h.live v) → IsWith c.set v s
       → IsMeet c.near (get_or h.rows v zero) m → Grown h.n g (v ∷ l) (record { set = s; near = m })
   grown_with l c v s m r t p q = record {
     members = with_is_in l c.set v s r.members p;
@@ -110,19 +110,19 @@ module _ {cap : ℕ} (h : Node) (k : HeldAt cap h) where
 
   -- ---- one turn of growing: the lowest of the rest is taken, and of the rest its neighbours stay
 
-  pub record Turn (c₀ : Growth) (left : ℕ) (c : Growth) (rest : ℕ) : Type 0 where
+  pub record Turn (c₀ : Growth ℕ) (left : ℕ) (c : Growth ℕ) (rest : ℕ) : Type 0 where
     pub rest_near : Within rest c.near
     pub near_live : Within c.near h.live
     pub same : (l : List ℕ) → Grown h.n g l c₀ → (m : List ℕ) × Grown h.n g m c × (scan g m (elements cap rest) ≡ scan g l (elements cap left))
 
-  pub turn_start : (c : Growth) (left : ℕ) → Within left c.near → Within c.near h.live → Turn c left c left
+  pub turn_start : (c : Growth ℕ) (left : ℕ) → Within left c.near → Within c.near h.live → Turn c left c left
   turn_start c left a b = record { rest_near = a; near_live = b; same = λ l r. (l, r, refl) }
 
   -- nothing is left
-  pub turn_end : (c₀ : Growth) (left : ℕ) (c : Growth) → Turn c₀ left c 0 → GrowsAt cap h.n g left c₀ c
+  pub turn_end : (c₀ : Growth ℕ) (left : ℕ) (c : Growth ℕ) → Turn c₀ left c 0 → GrowsAt cap h.n g left c₀ c
   turn_end c₀ left c i l e = let j = i.same l e in subst (λ m. Grown h.n g m c) (sym (ap (scan g j.0) (elements_none cap)) ∙ j.2) j.1
 
-  module _ (c₀ : Growth) (left : ℕ) (c : Growth) (rest v s m r : ℕ) (i : Turn c₀ left c rest) (w : IsLowest cap rest v) (ws : IsWith c.set v s)
+  module _ (c₀ : Growth ℕ) (left : ℕ) (c : Growth ℕ) (rest v s m r : ℕ) (i : Turn c₀ left c rest) (w : IsLowest cap rest v) (ws : IsWith c.set v s)
       (wm : IsMeet c.near (get_or h.rows v zero) m) (wr : IsMeet rest (get_or h.rows v zero) r) where
     live_v : T (has h.live v)
     live_v = i.near_live v (i.rest_near v w.member)

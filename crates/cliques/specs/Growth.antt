@@ -2,6 +2,7 @@
 --
 --   IsSetOf c w       : the set w has c's members
 --   elements cap w    : the members of the set w below cap, rising
+--   in_numbers num c  : a clique on the way, its two sets as the numbers that they are
 --   scan g c vs       : c grown along vs: each vertex in turn is added if it is admitted
 --   Grown n g c k     : k has c's members, and the live vertices that c admits
 --   GrowsAt cap n g left c r : r is c grown by the members of left below cap, lowest first
@@ -28,14 +29,17 @@ elements cap w = members (has w) cap
 abbrev pub scan : Graph → List ℕ → List ℕ → List ℕ
 scan g c vs = over (joined g) c vs
 
-pub record Grown (n : ℕ) (g : Graph) (c : List ℕ) (k : Growth) : Type 0 where
+abbrev pub in_numbers : {S : Type 0} → (S → ℕ) → Growth S → Growth ℕ
+in_numbers num c = record { set = num c.set; near = num c.near }
+
+pub record Grown (n : ℕ) (g : Graph) (c : List ℕ) (k : Growth ℕ) : Type 0 where
   pub members : IsSetOf c k.set
   pub near : (x : ℕ) → has k.near x ≡ (live n g x && admits g c x)
 
-abbrev pub GrowsAt : ℕ → ℕ → Graph → ℕ → Growth → Growth → Type 0
+abbrev pub GrowsAt : ℕ → ℕ → Graph → ℕ → Growth ℕ → Growth ℕ → Type 0
 GrowsAt cap n g left c r = (l : List ℕ) → Grown n g l c → Grown n g (scan g l (elements cap left)) r
 
-abbrev pub Grows : ℕ → Graph → ℕ → Growth → Growth → Type 0
+abbrev pub Grows : ℕ → Graph → ℕ → Growth ℕ → Growth ℕ → Type 0
 Grows n g left c r = GrowsAt 64 n g left c r
 
 abbrev pub Within : ℕ → ℕ → Type 0

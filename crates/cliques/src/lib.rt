@@ -1,37 +1,38 @@
-// The clique of a node: document 01's, grown a clique at a time in words.
+// The clique of a node: document 01's, grown a clique at a time in sets of any width.
 #![tactic(auto)]
 
-ghost use Rattle.std.specs.Prelude.{ℕ, ◌<◌, T};
+ghost use Rattle.std.specs.Prelude.{◌≡◌, ℕ, ◌<◌, T, length};
 ghost use Rattle.sets.specs.Set.{has};
-ghost use Rattle.graphs.specs.Held.{view, Held, Holds, Each};
+ghost use Rattle.graphs.specs.Held.{view, Held, HoldsAt, EachAt};
 ghost use Rattle.cliques.specs.Clique.{clique as clique_of};
-ghost use Rattle.cliques.specs.Growth.{IsSetOf, opening, Grown, Grows, Within, Reaches};
+ghost use Rattle.cliques.specs.Growth.{IsSetOf, opening, in_numbers, Grown, GrowsAt, Within, ReachesAt};
 
 use graphs::Node;
-use sets::{below, join, less, lowest, meet, size, with};
+use wide::Bits;
 
 // A clique on the way: its members, and the live vertices that it admits.
 #[derive(Clone, Copy)]
-pub struct Growth {
-    pub set: u64,
-    pub near: u64,
+pub struct Growth<S> {
+    pub set: S,
+    pub near: S,
 }
 
 // c grown by the vertices of `left`, lowest first: each that is still adjacent to all of c.
-pub fn grow(rows: &[u64], c: Growth, left: u64) -> Growth
-    requires by_index { (l : ℕ) × Within c.near l × Holds l rows.now }
-    requires within { Within left c.near }
-    ensures { (l : ℕ) → Within c.near l → Each l rows.now (λ h. Grows h.n (view h) left c result) }
+pub fn grow<S: Bits>(rows: &[u64], c: Growth<S>, left: S) -> Growth<S>
+    requires rows_len { length rows.now ≡ S.lent }
+    requires by_index { (l : ℕ) × Within (S.as_num c.near) l × HoldsAt S.cap l (S.as_rows rows.now) }
+    requires within { Within (S.as_num left) (S.as_num c.near) }
+    ensures { (l : ℕ) → Within (S.as_num c.near) l → EachAt S.cap l (S.as_rows rows.now) (λ h. GrowsAt S.cap h.n (view h) (S.as_num left) (in_numbers S.as_num c) (in_numbers S.as_num result)) }
 {
     let mut set = c.set;
     let mut near = c.near;
     let mut rest = left;
-    while rest != 0 {
-        let v = lowest(rest);
-        let row = rows[v];
-        set = with(set, v);
-        near = meet(near, row);
-        rest = meet(rest, row);
+    while !rest.is_empty() {
+        let v = rest.lowest();
+        let row = S::row(rows, v);
+        set = set.with(v);
+        near = near.meet(row);
+        rest = rest.meet(row);
     }
     Growth {
         set: set,
@@ -40,37 +41,39 @@ pub fn grow(rows: &[u64], c: Growth, left: u64) -> Growth
 }
 
 // The clique that s opens: it grows along the live vertices after s.
-pub fn opened(live: u64, rows: &[u64], s: usize) -> Growth
-    requires holds { Holds live rows.now }
-    requires s_bound { s < 64 }
-    requires t { T (has live s) }
-    ensures { Each live rows.now (λ h. Grown h.n (view h) (opening h.n (view h) s) result) }
+pub fn opened<S: Bits>(live: S, rows: &[u64], s: usize) -> Growth<S>
+    requires rows_len { length rows.now ≡ S.lent }
+    requires holds { HoldsAt S.cap (S.as_num live) (S.as_rows rows.now) }
+    requires s_bound { s < S.cap }
+    requires t { T (has (S.as_num live) s) }
+    ensures { EachAt S.cap (S.as_num live) (S.as_rows rows.now) (λ h. Grown h.n (view h) (opening h.n (view h) s) (in_numbers S.as_num result)) }
 {
-    let near = meet(live, rows[s]);
+    let near = live.meet(S::row(rows, s));
     let c = Growth {
-        set: with(0, s),
+        set: S::none().with(s),
         near: near,
     };
-    grow(rows, c, less(near, below(s)))
+    grow(rows, c, near.less(S::below(s)))
 }
 
 // The clique of lent rows, or a clique on the way to it that has as many members as are enough. The next opener is the lowest vertex in no clique
 // yet; each clique grows along the vertices after its opener, and then along all; the first that is the largest stays. Where all that a clique
 // admits would not make it the largest, it does not grow.
-pub fn clique_among(live: u64, rows: &[u64], enough: usize) -> u64
-    requires { Holds live rows.now }
-    ensures { Each live rows.now (λ h. Reaches h.n (view h) enough result) }
+pub fn clique_among<S: Bits>(live: S, rows: &[u64], enough: usize) -> S
+    requires rows_len { length rows.now ≡ S.lent }
+    requires holds { HoldsAt S.cap (S.as_num live) (S.as_rows rows.now) }
+    ensures { EachAt S.cap (S.as_num live) (S.as_rows rows.now) (λ h. ReachesAt S.cap h.n (view h) enough (S.as_num result)) }
 {
     let mut free = live;
-    let mut best: u64 = 0;
+    let mut best = S::none();
     let mut most: usize = 0;
-    while free != 0 {
-        let s = lowest(free);
+    while !free.is_empty() {
+        let s = free.lowest();
         let c = opened(live, rows, s);
-        free = less(free, c.set);
-        if most < size(join(c.set, c.near)) {
+        free = free.less(c.set);
+        if most < c.set.join(c.near).size() {
             let d = grow(rows, c, c.near);
-            let members = size(d.set);
+            let members = d.set.size();
             if most < members {
                 best = d.set;
                 most = members;

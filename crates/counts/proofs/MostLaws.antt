@@ -40,18 +40,6 @@ module _ (f : ℕ → ℕ) (apart slice weight both m : ℕ) (a : Ahead f apart 
   not_in : (v : ℕ) → ¬ T (has slice v) → more v ≡ f v
   not_in v q = omega (arith, ap (λ (k : ℕ). weight * k) (bit_zero (has slice v) q))
 
-  -- who leads is not in the slice, and others that are do not catch up
-  pub ahead_kept : both ≡ 0 → Ahead (λ v. f v + weight * bit (has slice v)) apart weight m
-  ahead_kept e = record {
-    top = a.top;
-    leads = record {
-      within = l.within;
-      same = λ v t. omega (arith, l.same v t, not_in v (λ u. subst T (ap (λ (s : ℕ). has s v) e ∙ has_none v) (subst T (sym (is v)) (and_t (has m v) (has slice v) t u))));
-      behind = λ v t q. omega (arith, l.behind v t q, more_few v);
-      some = l.some;
-    };
-  }
-
   pub ahead_slice : both ≢ 0 → Ahead (λ v. f v + weight * bit (has slice v)) apart weight both
   ahead_slice q = record {
     top = a.top + weight;

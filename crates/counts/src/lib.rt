@@ -40,10 +40,7 @@ fn half(a: u64, b: u64) -> Sum
 {
     let twos = meet(a, b);
     let ones = less(join(a, b), twos);
-    Sum {
-        ones: ones,
-        twos: twos,
-    }
+    Sum { ones, twos }
 }
 
 // Three digits.
@@ -53,10 +50,7 @@ fn add(a: u64, b: u64, c: u64) -> Sum
     let x = half(a, b);
     let y = half(x.ones, c);
     let twos = join(x.twos, y.twos);
-    Sum {
-        ones: y.ones,
-        twos: twos,
-    }
+    Sum { ones: y.ones, twos }
 }
 
 // The row of the lowest member; an empty one, which changes no count, where there is none.

@@ -11,6 +11,9 @@ use native.Mathlib.Omega.{arith}
 use borrow.Author.Tests.{le-ltb}
 use lib.Dec.{T, eqb, eqb→eq}
 use lib.ListN.{length, take}
+use Rattle.std.specs.Prelude.{Ok, Err}
+use Rattle.refusals.specs.declared.Invalid.TheVariants.{Many, Stray, Itself, OneSided}
+use Rattle.refusals.specs.declared.Unsolved.TheVariants.{OfRows, Short, Budget}
 use Rattle.sets.specs.Lists.{In, every, upto, table as list_of}
 use Rattle.sets.proofs.TestLaws.{and_l, and_r, eqb_of, T→true, T→false}
 use Rattle.sets.proofs.ListLaws.{every_get, length_table}
@@ -23,9 +26,7 @@ use Rattle.mycielski.specs.Rounds as rounds
 use Rattle.bounds.specs.Names.{mycielskian, clique_set_is, mycielskian_is}
 use Rattle.zykov.specs.Tree.{grown, below}
 use Rattle.zykov.specs.Walk.{State, walk}
-use Rattle.walk.specs.Promise.{numbers, Promised, refused, walked, answer_up_to}
-use Rattle.walk.specs.declared.Answer.{Answer}
-use Rattle.walk.specs.declared.Answer.TheVariants.{Accepted, Many, Stray, Itself, OneSided, Short, Budget}
+use Rattle.walk.specs.Promise.{Answer, numbers, Promised, refused, walked, answer_up_to}
 use Rattle.walk.proofs.PromiseLaws.{promised_answer}
 use Rattle.figures.specs.Table.{Figures, figures_of, Row, table, cliques, walk_of, same, same_list, passes, picks, Confirmed, Shows}
 
@@ -66,19 +67,19 @@ module _ (w : ℕ → (ℕ → ℕ → Bool) → State) (rows before other : Lis
   answer_any b c =
       ap
       (λ t. refused (judge rows)
-      (cond t Short (walked 64 w rows before budget (w (length rows) (matrix rows)))))
+      (cond t (Err Short) (walked 64 w rows before budget (w (length rows) (matrix rows)))))
       (le-ltb (length before) (length rows) b ∙ sym (le-ltb (length other) (length rows) c))
 
 -- where the number is 0 the answer is an accepted one
 colours_of : (w : ℕ → (ℕ → ℕ → Bool) → State) (rows before after : List ℕ) (budget : ℕ) (a : Answer) → (numbers a).number ≡ zero
     → Promised w rows before budget a after → take (length rows) after ≡ (w (length rows) (matrix rows)).best
-colours_of w rows before after budget (Accepted k m l c) e p = p.best
-colours_of w rows before after budget Many e p = absurd (omega arith)
-colours_of w rows before after budget (Stray i) e p = absurd (omega arith)
-colours_of w rows before after budget (Itself i) e p = absurd (omega arith)
-colours_of w rows before after budget (OneSided i) e p = absurd (omega arith)
-colours_of w rows before after budget Short e p = absurd (omega arith)
-colours_of w rows before after budget (Budget m) e p = absurd (omega arith)
+colours_of w rows before after budget (Ok f) e p = p.best
+colours_of w rows before after budget (Err (OfRows Many)) e p = absurd (omega arith)
+colours_of w rows before after budget (Err (OfRows (Stray i))) e p = absurd (omega arith)
+colours_of w rows before after budget (Err (OfRows (Itself i))) e p = absurd (omega arith)
+colours_of w rows before after budget (Err (OfRows (OneSided i))) e p = absurd (omega arith)
+colours_of w rows before after budget (Err Short) e p = absurd (omega arith)
+colours_of w rows before after budget (Err (Budget m)) e p = absurd (omega arith)
 
 module _ (r : Row) (t : T (passes r)) where
   abbrev n : ℕ
@@ -138,4 +139,4 @@ all_picked = tt
 
 pub cliques_shown : (p : List ℕ × ℕ) → In p cliques → Shows p
 unfolding picks
-cliques_shown p i walk before after budget k m l c q = q.shown ∙ clique_set_is _ _ ∙ eqb→eq _ p.1 (every_get picks cliques all_picked p i)
+cliques_shown p i walk before after budget f q = q.shown ∙ clique_set_is _ _ ∙ eqb→eq _ p.1 (every_get picks cliques all_picked p i)

@@ -13,7 +13,7 @@
 --   Shows p        : whoever promises as the walks do shows it
 --
 -- `figures` and `cliques_shown` of proofs/Figures.antt: every row of the table holds, and every clique is shown. Assumes nothing.
-use Rattle.std.specs.Prelude.{◌≡◌, ◌≢◌, Bool, true, false, ◌&&◌, cond, List, [], ◌∷◌, ℕ, zero, suc, ◌*◌, ◌≤◌, eqb, length, take}
+use Rattle.std.specs.Prelude.{◌≡◌, ◌≢◌, Bool, true, false, ◌&&◌, cond, List, [], ◌∷◌, ℕ, zero, suc, ◌*◌, ◌≤◌, eqb, length, take, Ok}
 use Rattle.sets.specs.Lists.{table as list_of}
 use Rattle.clashes.specs.Matrix.{matrix}
 use Rattle.clashes.specs.Divisions.{free_divisions}
@@ -22,9 +22,8 @@ use Rattle.cliques.specs.Clique.{clique, set_of}
 use Rattle.mycielski.specs.Rounds as rounds
 use Rattle.bounds.specs.Names.{mycielskian}
 use Rattle.zykov.specs.Walk.{State, bounded_walk_lem, plain_walk_lem}
-use Rattle.walk.specs.Promise.{Numbers, numbers, Promised, answer_up_to}
-use Rattle.walk.specs.declared.Answer.{Answer}
-use Rattle.walk.specs.declared.Answer.TheVariants.{Accepted}
+use Rattle.walk.specs.Promise.{Answer, Numbers, numbers, Promised, answer_up_to}
+use Rattle.walk.specs.declared.found.Fewest.{Fewest}
 
 pub record Figures : Type 0 where
   pub number : ℕ
@@ -142,5 +141,5 @@ pub record Confirmed (r : Row) : Type 0 where
 
 abbrev pub Shows : List ℕ × ℕ → Type 0
 Shows p =
-    (walk : ℕ → (ℕ → ℕ → Bool) → State) (before after : List ℕ) (budget k m l c : ℕ)
-    → Promised walk p.0 before budget (Accepted k m l c) after → c ≡ p.1
+    (walk : ℕ → (ℕ → ℕ → Bool) → State) (before after : List ℕ) (budget : ℕ) (f : Fewest)
+    → Promised walk p.0 before budget (Ok f) after → f.clique ≡ p.1

@@ -2,17 +2,15 @@
 use mathlib.Core.Path.{◌≡◌, sym, ap, ◌∙◌, subst}
 use mathlib.Core.Logic.{◌≢◌}
 use mathlib.Core.Bool.{Bool, not, cond}
-use mathlib.Core.List.{List}
-use Prim.Native.Nat.{ℕ, zero, ◌+◌, ◌≤◌, ◌<◌}
-use native.Mathlib.Decide.{ℕ_discrete, dec_lt}
+use Prim.Native.Nat.{ℕ, zero, ◌≤◌, ◌<◌}
+use native.Mathlib.Decide.{dec_lt}
 use native.Mathlib.Omega.{arith}
-use lib.Dec.{T, eqb, ltb, ltb→lt, lt→ltb}
-use lib.ListN.{length, get_or, set, replicate, length-replicate, get_or-replicate, get_or-eq_default}
-use lib.Seq.{get_or-set_same, get_or-set_other}
-use borrow.Author.Tests.{lt-ltb, le-ltb}
+use lib.Dec.{T, eqb, ltb}
+use lib.ListN.{get_or, replicate, length-replicate, get_or-replicate, get_or-eq_default}
+use borrow.Author.Tests.{le-ltb}
 use Rattle.sets.specs.Lists.{members, over}
 use Rattle.sets.specs.Set.{has, size, IsWithout, IsLowest}
-use Rattle.sets.proofs.TestLaws.{and_l, and_r, and_t, T-ext}
+use Rattle.sets.proofs.TestLaws.{and_l, and_r, and_t}
 use Rattle.sets.proofs.MemberLaws.{count_few, members_none}
 use Rattle.sets.proofs.SetLaws.{has_none, size_without, members_cons}
 use Rattle.graphs.proofs.PairLaws.{of_ne, ne_of}
@@ -41,14 +39,6 @@ over_next {cap} f a b s w r l h e = ap (λ x. over f x (members (has r) cap)) e 
 pub over_none : (cap : ℕ) {B : Type 0} (f : B → ℕ → B) (a : B) (s : ℕ) → s ≡ 0 → over f a (members (has s) cap) ≡ a
 over_none cap f a s e = ap (over f a) (members_none (has s) cap (λ j b t. subst T (ap (λ (m : ℕ). has m j) e ∙ has_none j) t))
 
--- ---- places of an array
-
--- another place than i is below i + 1 just where it is below i
-below_same : (k i : ℕ) → k ≢ i → ltb k i ≡ ltb k (i + 1)
-below_same k i q =
-    T-ext (ltb k i) (ltb k (i + 1)) (λ t. let c : k < i = ltb→lt k i t in lt→ltb k (i + 1) (omega arith))
-    (λ t. let c : k < i + 1 = ltb→lt k (i + 1) t in lt→ltb k i (omega arith))
-
 -- ---- an array of zeros that is filled from 0 on: places below i have f
 
 pub fill_none : (f : ℕ → ℕ) (n k : ℕ) → get_or (replicate n zero) k zero ≡ cond (ltb k 0) (f k) zero
@@ -57,11 +47,3 @@ fill_none f n k = go (dec_lt k n) ∙ sym (ap (λ (t : Bool). cond t (f k) zero)
     go : Dec (k < n) → get_or (replicate n zero) k zero ≡ zero
     go (yes b) = get_or-replicate n k zero zero b
     go (no q) = get_or-eq_default (replicate n zero) zero (omega (arith, length-replicate n zero))
-
-pub fill_next : (f : ℕ → ℕ) (l : List ℕ) (i x : ℕ) → i < length l → x ≡ f i → ((k : ℕ) → get_or l k zero ≡ cond (ltb k i) (f k) zero)
-    → (k : ℕ) → get_or (set l i x) k zero ≡ cond (ltb k (i + 1)) (f k) zero
-fill_next f l i x b e h k = go (ℕ_discrete k i)
-  where
-    go : Dec (k ≡ i) → get_or (set l i x) k zero ≡ cond (ltb k (i + 1)) (f k) zero
-    go (yes q) = rw q (get_or-set_same l i x zero b ∙ e ∙ sym (ap (λ (t : Bool). cond t (f i) zero) (lt-ltb i (i + 1) (omega arith))))
-    go (no q) = get_or-set_other l i k x zero q ∙ h k ∙ ap (λ (t : Bool). cond t (f k) zero) (below_same k i q)

@@ -10,14 +10,12 @@
 --   Held, Holds, Each      : the same at 64, where a row is one word
 --
 -- Assumes nothing.
-use Rattle.std.specs.Prelude.{◌≡◌, ◌&&◌, List, ℕ, zero, ◌≤◌, length, get_or}
-use Rattle.std.proofs.Math.Option.{Option, none, some}
+use Rattle.std.specs.Prelude.{◌≡◌, ◌&&◌, List, ℕ, zero, ◌≤◌, length, get_or, Option, Some, None}
+use Rattle.std.proofs.Math.Option.{Option as MathOption, none, some}
 use Rattle.sets.specs.Set.{has}
 use Rattle.graphs.specs.Graph.{Graph, live}
 use Rattle.graphs.specs.Good.{Good}
 use Rattle.graphs.specs.declared.Node.{Node}
-use Rattle.graphs.specs.declared.Choice.{Choice}
-use Rattle.graphs.specs.declared.Choice.TheVariants.{Complete, Split}
 
 abbrev pub view : Node → Graph
 view h = record {
@@ -35,9 +33,9 @@ pub record HeldAt (cap : ℕ) (h : Node) : Type 0 where
 abbrev pub Held : Node → Type 0
 Held h = HeldAt 64 h
 
-abbrev pub choice_of : Choice → Option (ℕ × ℕ)
-choice_of Complete = none
-choice_of (Split u v) = some (u, v)
+abbrev pub choice_of : Option (ℕ × ℕ) → MathOption (ℕ × ℕ)
+choice_of None = none
+choice_of (Some p) = some p
 
 abbrev pub node : ℕ → ℕ → List ℕ → List ℕ → Node
 node n live rows names = record { n = n; live = live; rows = rows; names = names }

@@ -21,14 +21,8 @@ pub struct Node {
     pub names: [u8; 64],
 }
 
-// Where to split a node: nowhere, since it is complete, or at u and v.
-#[derive(Clone, Copy)]
-pub enum Choice {
-    Complete,
-    Split(usize, usize),
-}
-
-// The pair that leads so far, with one more than its common neighbours; 0 where there is none yet.
+// The pair that leads so far, with one more than its common neighbours; 0 where there is none yet, since 0 is the least of these sizes: an Option
+// of it would be unpacked at each comparison.
 #[derive(Clone, Copy)]
 pub struct Lead {
     pub size: usize,
@@ -43,19 +37,16 @@ pub fn root(rows: &[u64]) -> Node
 {
     let n = rows.len();
     let mut held: [u64; 64] = [0; 64];
+    held[..n].copy_from_slice(rows);
     let mut names: [u8; 64] = [0; 64];
-    let mut i = 0;
-    while i < n {
-        held[i] = rows[i];
+    for i in 0..n {
         names[i] = i as u8;
-        i += 1;
     }
-    let live = below(n);
     Node {
-        n: n,
-        live: live,
+        n,
+        live: below(n),
         rows: held,
-        names: names,
+        names,
     }
 }
 
@@ -79,7 +70,7 @@ fn by_pairs(rows: &[u64], u: usize, near: u64, apart: u64, best: Lead) -> Lead
     if best.size < top {
         return Lead {
             size: top,
-            u: u,
+            u,
             v: at,
         };
     }
@@ -106,11 +97,7 @@ fn led(rows: &[u64], u: usize, near: u64, apart: u64, best: Lead) -> Lead
     let v = lowest(greatest(counted(rows, near), apart));
     let most = size(meet(near, rows[v])) + 1;
     if best.size < most {
-        return Lead {
-            size: most,
-            u: u,
-            v: v,
-        };
+        return Lead { size: most, u, v };
     }
     best
 }
@@ -125,9 +112,9 @@ fn hopeful(degrees: Counts, before: usize, need: usize, left: u64) -> u64
     at_least(degrees, need, left)
 }
 
-// Of the non-adjacent live u < v the pair with most common neighbours, then smallest u, then smallest v. Who has fewer neighbours than would lead is
+// Of the non-adjacent live u < v the pair with most common neighbours, then smallest u, then smallest v; none where the node is complete. Who has fewer neighbours than would lead is
 // passed over, as u and as v.
-pub fn choose_among(live: u64, rows: &[u64]) -> Choice
+pub fn choose_among(live: u64, rows: &[u64]) -> Option<(usize, usize)>
     requires { Holds live rows.now }
     ensures { Each live rows.now (λ h. choice_of result ≡ pair h.n (view h)) }
 {
@@ -148,7 +135,7 @@ pub fn choose_among(live: u64, rows: &[u64]) -> Choice
         left = hopeful(degrees, before, best.size, left);
     }
     if best.size == 0 {
-        return Choice::Complete;
+        return None;
     }
-    Choice::Split(best.u, best.v)
+    Some((best.u, best.v))
 }

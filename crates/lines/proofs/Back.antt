@@ -13,12 +13,10 @@ use lib.Dec.{leb}
 use lib.ListN.{length, get_or, drop, length-append, get_or-append}
 use lib.Seq.{drop-drop, drop-append_seam, get_or-append_seam}
 use Rattle.lines.specs.Text.{ended, lines_of}
+use Rattle.std.specs.Prelude.{Some}
 use Rattle.lines.specs.Number.{digits, value, proper, number_of}
 use Rattle.lines.specs.Words.{alone_of, pair_of}
 use Rattle.lines.specs.Numeral.{decimal, numeral, one_line, two_line}
-use Rattle.lines.specs.declared.Front.TheVariants.{Is}
-use Rattle.lines.specs.declared.Alone.TheVariants.{Only}
-use Rattle.lines.specs.declared.Pair.TheVariants.{Both}
 use Rattle.lines.proofs.Basics.{cond_cases}
 use Rattle.lines.proofs.Numbers.{number_is, proper_other}
 use Rattle.lines.proofs.Words.{alone_is, pair_is}
@@ -88,7 +86,7 @@ unfolding numeral
 numeral_length n = decimal_length 6 n
 
 -- a numeral with no digit after it is the number
-pub numeral_back : (n : ℕ) (t : List ℕ) → n < 10000000 → digits t ≡ [] → number_of (numeral n ++ t) ≡ Is n (length (numeral n))
+pub numeral_back : (n : ℕ) (t : List ℕ) → n < 10000000 → digits t ≡ [] → number_of (numeral n ++ t) ≡ Some (n, length (numeral n))
 unfolding numeral
 numeral_back n t h e =
     let x = decimal 7 n in
@@ -96,19 +94,19 @@ numeral_back n t h e =
     number_is (x ++ t) (length x) n (ap length r) (ap (value 0) r ∙ decimal_value 7 n h)
     (rw (get_or-append x t 0 0 (decimal_length 6 n).0) (decimal_proper n h))
 
-pub alone_back : (n : ℕ) → n < 10000000 → alone_of (numeral n) ≡ Only n
+pub alone_back : (n : ℕ) → n < 10000000 → alone_of (numeral n) ≡ Some n
 alone_back n h =
     let y = numeral n in
-    alone_is y n (length y) (subst (λ (l : List ℕ). number_of l ≡ Is n (length y)) (append-nil y) (numeral_back n [] h refl)) refl
+    alone_is y n (length y) (subst (λ (l : List ℕ). number_of l ≡ Some (n, length y)) (append-nil y) (numeral_back n [] h refl)) refl
 
-pub pair_back : (u v : ℕ) → u < 10000000 → v < 10000000 → pair_of (numeral u ++ 32 ∷ numeral v) ≡ Both u v
+pub pair_back : (u v : ℕ) → u < 10000000 → v < 10000000 → pair_of (numeral u ++ 32 ∷ numeral v) ≡ Some (u, v)
 pair_back u v hu hv =
     let x = numeral u in
     let y = numeral v in
     let t : List ℕ = x ++ 32 ∷ y in
     let k = length x in
     let d : drop (k + 1) t ≡ y = sym (drop-drop 1 k t) ∙ ap (drop 1) (drop-append_seam x (32 ∷ y)) in
-    pair_is t u k (Only v) (numeral_back u (32 ∷ y) hu refl) (get_or-append_seam x 32 y 0) (ap alone_of d ∙ alone_back v hv)
+    pair_is t u k (Some v) (numeral_back u (32 ∷ y) hu refl) (get_or-append_seam x 32 y 0) (ap alone_of d ∙ alone_back v hv)
 
 -- ---- a line
 

@@ -6,23 +6,25 @@ use mathlib.Core.Bool.{Bool, true, false, cond}
 use native.Mathlib.Nat.{le_of_suc-le-suc, not-suc-le-zero, add-zero, add-suc}
 use native.Mathlib.Numerals.{add-one}
 use native.Mathlib.Omega.{arith}
-use borrow.Author.Tests.{ne_eqb, lt-ltb, le-ltb, ltb-true, ltb-false}
-use lib.ListN.{length, take, drop, get_or, drop_of_length-le, length-drop}
+use borrow.Author.Tests.{lt-ltb, le-ltb, ltb-true, ltb-false}
+use lib.ListN.{length, take, drop, drop_of_length-le, length-drop}
 use lib.Seq.{drop-drop}
 use lib.Dec.{eqb, ltb}
+use Rattle.std.specs.Prelude.{Some, None, not, position}
+use Rattle.std.specs.List.{position_or_len}
 use Rattle.lines.specs.Text.{Text, done, unended, ended, put, feed, lines_of, line_no_lem, first_line, line_end_lem, next_start_lem, place_of}
-use Rattle.lines.proofs.Basics.{from, cond_cases}
+use Rattle.lines.proofs.Basics.{cond_cases}
 
--- ---- the first line, byte by byte
+-- ---- the first line
 
-pub line_stop : (s : List ℕ) (i : ℕ) → i < length s → get_or s i 0 ≡ 10 → first_line (drop i s) ≡ []
-line_stop s i h e = rw (from s i h, e)
-
-pub line_more : (s : List ℕ) (i : ℕ) → i < length s → (get_or s i 0 ≡ 10 → ⊥) → length (first_line (drop i s)) ≡ suc (length (first_line (drop (i + 1) s)))
-line_more s i h e = rw (from s i h, ne_eqb _ _ e)
-
-pub line_none : (s : List ℕ) (i : ℕ) → length s ≤ i → first_line (drop i s) ≡ []
-line_none s i h = rw (drop_of_length-le s h)
+-- it is as long as what stands before the first line feed
+first_is : (t : List ℕ) → length (first_line t) ≡ position_or_len (λ b. eqb b 10) t
+first_is [] = refl
+first_is (b ∷ t) = go (eqb b 10) (first_is t)
+  where
+    go : (x : Bool) → length (first_line t) ≡ position_or_len (λ b. eqb b 10) t → length (cond x [] (b ∷ first_line t)) ≡ cond (not x) (1 + position_or_len (λ b. eqb b 10) t) 0
+    go true r = refl
+    go false r = omega arith
 
 first_le : (t : List ℕ) → length (first_line t) ≤ length t
 first_le [] = zero-le
@@ -64,6 +66,22 @@ unended_at (b ∷ t) h = go (eqb b 10) h (unended_at t)
 unfed_some : (t : List ℕ) → 0 < length t → unfed t ≡ unended t
 unfed_some [] h = absurd (not-suc-le-zero h)
 unfed_some (b ∷ t) h = refl
+
+-- a line ends at the first line feed from its start on, or with the text
+pub feed_found : (s : List ℕ) (a i : ℕ) → position (λ b. eqb b 10) (drop a s) ≡ Some i → a + i ≡ line_end_lem s a
+feed_found s a i = go (ltb (position_or_len (λ b. eqb b 10) (drop a s)) (length (drop a s)))
+  where
+    go : (x : Bool) → cond x (Some (position_or_len (λ b. eqb b 10) (drop a s))) None ≡ Some i → a + i ≡ line_end_lem s a
+    go true e = let z : position_or_len (λ b. eqb b 10) (drop a s) ≡ i = cc in omega (arith, first_is (drop a s))
+    go false e = let z : ◌≡◌ {A = ℕ} 0 1 = cc in absurd (omega arith)
+
+pub feed_none : (s : List ℕ) (a : ℕ) → a ≤ length s → position (λ b. eqb b 10) (drop a s) ≡ None → length s ≡ line_end_lem s a
+feed_none s a h = go (ltb (position_or_len (λ b. eqb b 10) (drop a s)) (length (drop a s))) refl
+  where
+    go : (x : Bool) → ltb (position_or_len (λ b. eqb b 10) (drop a s)) (length (drop a s)) ≡ x
+        → cond x (Some (position_or_len (λ b. eqb b 10) (drop a s))) None ≡ None → length s ≡ line_end_lem s a
+    go true f e = let z : ◌≡◌ {A = ℕ} 0 1 = cc in absurd (omega arith)
+    go false f e = omega (arith, ltb-false _ _ f, first_is (drop a s), first_le (drop a s), length-drop a s)
 
 module _ (s : List ℕ) (a e : ℕ) (q : e ≡ line_end_lem s a) where
   -- a line ends within its text

@@ -1,29 +1,81 @@
 -- The digits of a number, one at a time, and the cases of `proper`.
-use Prim.Native.Nat.{ℕ, ◌+◌, ◌*◌, ◌^◌, ◌≤◌, ◌<◌}
-use mathlib.Core.Path.{◌≡◌, sym, ap, ◌∙◌}
+use Prim.Native.Nat.{ℕ, zero, suc, ◌+◌, ◌-◌, ◌*◌, ◌^◌, ◌≤◌, ◌<◌, zero-le, suc-le-suc}
+use mathlib.Core.Path.{◌≡◌, refl, sym, ap, subst, ◌∙◌}
 use mathlib.Core.List.{List, [], ◌∷◌}
-use mathlib.Core.Bool.{true, false}
+use mathlib.Core.Bool.{Bool, true, false, cond, ◌&&◌}
 use native.Mathlib.Numerals.{add-one}
-use native.Mathlib.Nat.{pow-suc, pow-le-pow_right}
+use native.Mathlib.Nat.{pow-suc, pow-le-pow_right, le_of_suc-le-suc, not-suc-le-zero}
 use native.Mathlib.Omega.{arith}
-use borrow.Author.Tests.{eq-eqb, ne_eqb, le-leb, lt-leb}
-use lib.ListN.{length, drop, get_or, drop_of_length-le}
-use lib.Dec.{lit<}
-use Rattle.lines.specs.Number.{digits, value, proper, number_of}
-use Rattle.lines.specs.declared.Front.TheVariants.{Is, Not}
-use Rattle.lines.proofs.Basics.{from}
+use borrow.Author.Tests.{eq-eqb, ne_eqb, le-leb, lt-leb, leb-true}
+use lib.ListN.{length, take, drop, get_or, drop_of_length-le}
+use lib.Dec.{T, leb, lit<}
+use Rattle.std.specs.Prelude.{None, Some, take_while}
+use Rattle.std.specs.Char.{is_ascii_digit}
+use Rattle.std.proofs.lemmas.List.Sums.{take_while-cons}
+use Rattle.lines.specs.Number.{digit, digits, value, proper, number_of}
+use Rattle.lines.proofs.Basics.{cond_cases, from}
 
-pub digits_more : (s : List ℕ) (i d : ℕ) → i < length s → d ≡ get_or s i 0 → 48 ≤ d → d ≤ 57 → digits (drop i s) ≡ d ∷ digits (drop (i + 1) s)
-digits_more s i d h e lo hi = rw (from s i h, ← e, le-leb 48 d lo, le-leb d 57 hi)
+digit_is : (b : ℕ) → is_ascii_digit b ≡ digit b
+digit_is b = go (leb 48 b)
+  where
+    go : (x : Bool) → (x && leb b 57) ≡ cond x (leb b 57) false
+    go true = refl
+    go false = refl
 
-pub digits_low : (s : List ℕ) (i d : ℕ) → i < length s → d ≡ get_or s i 0 → d < 48 → digits (drop i s) ≡ []
-digits_low s i d h e lo = rw (from s i h, ← e, lt-leb 48 d lo)
+-- the digits at the front are the bytes that pass as digits
+pub digits_while : (s : List ℕ) → take_while is_ascii_digit s ≡ digits s
+digits_while [] = refl
+digits_while (b ∷ s) = take_while-cons is_ascii_digit b s ∙ ap (λ (x : Bool). cond x (b ∷ take_while is_ascii_digit s) []) (digit_is b) ∙ ap (λ (l : List ℕ). cond (digit b) (b ∷ l) []) (digits_while s)
 
-pub digits_high : (s : List ℕ) (i d : ℕ) → i < length s → d ≡ get_or s i 0 → 57 < d → digits (drop i s) ≡ []
-digits_high s i d h e hi = rw (from s i h, ← e, le-leb 48 d (omega arith), lt-leb d 57 hi)
+-- and as long as they are, what stands at the front
+pub digits_take : (s : List ℕ) → take (length (digits s)) s ≡ digits s
+digits_take [] = refl
+digits_take (b ∷ s) =
+    cond_cases (λ (l : List ℕ). take (length l) (b ∷ s) ≡ l) (digit b) (b ∷ digits s) [] (λ _. ap (λ (l : List ℕ). b ∷ l) (digits_take s)) (λ _. refl)
 
-pub digits_end : (s : List ℕ) (i : ℕ) → length s ≤ i → digits (drop i s) ≡ []
-digits_end s i h = rw (drop_of_length-le s h)
+pub digits_le : (s : List ℕ) → length (digits s) ≤ length s
+digits_le [] = zero-le
+digits_le (b ∷ s) = cond_cases (λ (l : List ℕ). length l ≤ suc (length s)) (digit b) (b ∷ digits s) [] (λ _. suc-le-suc (digits_le s)) (λ _. zero-le)
+
+-- each of them is one
+pub digits_are : (s : List ℕ) (i : ℕ) → i < length (digits s) → (48 ≤ get_or (digits s) i 0) × (get_or (digits s) i 0 ≤ 57)
+digits_are [] i = λ h. absurd (not-suc-le-zero h)
+digits_are (b ∷ s) i = go (digit b) refl (digits_are s) i
+  where
+    passed : digit b ≡ true → (48 ≤ b) × (b ≤ 57)
+    passed e = both (leb 48 b) refl e
+      where
+        both : (x : Bool) → leb 48 b ≡ x → cond x (leb b 57) false ≡ true → (48 ≤ b) × (b ≤ 57)
+        both true f e = (leb-true 48 b f, leb-true b 57 e)
+        both false f e = absurd (subst T (sym e) tt)
+
+    go : (x : Bool) → digit b ≡ x → ((i : ℕ) → i < length (digits s) → (48 ≤ get_or (digits s) i 0) × (get_or (digits s) i 0 ≤ 57))
+        → (i : ℕ) → i < length (cond x (b ∷ digits s) []) → (48 ≤ get_or (cond x (b ∷ digits s) []) i 0) × (get_or (cond x (b ∷ digits s) []) i 0 ≤ 57)
+    go true e r zero h = passed e
+    go true e r (suc i) h = r i (le_of_suc-le-suc h)
+    go false e r i h = absurd (not-suc-le-zero h)
+
+-- k bytes that pass as digits, at the front
+module _ (s : List ℕ) (k : ℕ) (e : k ≡ length (take_while is_ascii_digit s)) where
+  pub digits_count : length (digits s) ≡ k
+  digits_count = sym (e ∙ ap length (digits_while s))
+
+  digits_front : take k s ≡ digits s
+  digits_front = rw (← digits_count) (digits_take s)
+
+  module _ (i : ℕ) (h : i < length (take k s)) where
+    pub digit_before : i < k
+    digit_before = omega (arith, ap length digits_front, digits_count)
+
+    pub digit_at : (48 ≤ get_or (take k s) i 0) × (get_or (take k s) i 0 ≤ 57)
+    digit_at = rw digits_front (digits_are s i (omega (arith, digit_before, digits_count)))
+
+    -- read, what is left has the value that it had before
+    pub digit_read : (v : ℕ) → value (v * 10 + (get_or (take k s) i 0 - 48)) (drop (i + 1) (digits s)) ≡ value v (drop i (digits s))
+    digit_read v = rw (digits_front, from (digits s) i (omega (arith, digit_before, digits_count))) refl
+
+  pub digits_read : (i v : ℕ) → length (take k s) ≤ i → value v (drop i (digits s)) ≡ value 0 (digits s) → value 0 (digits s) ≡ v
+  digits_read i v h e = sym e ∙ ap (value v) (drop_of_length-le (digits s) (omega (arith, ap length digits_front)))
 
 -- 10 ^ i: one digit more, and at most seven
 pub ten_more : (i : ℕ) → 10 ^ (i + 1) ≡ 10 ^ i * 10
@@ -32,15 +84,10 @@ ten_more i = rw (add-one, pow-suc)
 pub ten_cap : (i : ℕ) → i ≤ 7 → 10 ^ i ≤ 10000000
 ten_cap i h = pow-le-pow_right (lit< tt) h
 
--- no digit is left: the count and the value are those so far
-pub digits_done : (s : List ℕ) (i v : ℕ) → digits (drop i s) ≡ [] → value v (digits (drop i s)) ≡ value 0 (digits s) → i + length (digits (drop i s)) ≡ length (digits s)
-    → (length (digits s) ≡ i) × (value 0 (digits s) ≡ v)
-digits_done s i v e f g = (omega (arith, ap length e), sym f ∙ ap (value v) e)
-
-pub number_is : (s : List ℕ) (k v : ℕ) → length (digits s) ≡ k → value 0 (digits s) ≡ v → proper k (get_or s 0 0) ≡ true → number_of s ≡ Is v k
+pub number_is : (s : List ℕ) (k v : ℕ) → length (digits s) ≡ k → value 0 (digits s) ≡ v → proper k (get_or s 0 0) ≡ true → number_of s ≡ Some (v, k)
 number_is s k v e f g = rw (e, f, g)
 
-pub number_not : (s : List ℕ) (k : ℕ) → length (digits s) ≡ k → proper k (get_or s 0 0) ≡ false → number_of s ≡ Not
+pub number_not : (s : List ℕ) (k : ℕ) → length (digits s) ≡ k → proper k (get_or s 0 0) ≡ false → number_of s ≡ None
 number_not s k e g = rw (e, g)
 
 -- the cases of `proper`

@@ -10,11 +10,10 @@ use native.Mathlib.Numerals.{add-one}
 use native.Mathlib.Decide.{dec_lt}
 use native.Mathlib.Omega.{arith}
 use borrow.Author.Tests.{le-leb, lt-leb}
-use lib.ListN.{length, take, drop, set, get_or, length-append, length-drop, length-set, take-append-drop, drop_of_length-le}
+use lib.ListN.{length, take, drop, set, length-append, length-drop, length-set, take-append-drop}
 use lib.Dec.{leb}
 use lib.Seq.{set_split, append_snoc, length-take-le, drop-drop, take_at, drop_at}
 use Rattle.lines.specs.Numeral.{decimal, numeral, one_line, two_line, over, Put}
-use Rattle.lines.proofs.Basics.{from}
 
 -- ---- `over`
 
@@ -115,21 +114,6 @@ module _ (o₀ : List ℕ) (a₀ : ℕ) (w o : List ℕ) (a : ℕ) (r : List ℕ
   pub left_none : r ≡ [] → Put o₀ a₀ w o a
   left_none e =
       (omega (arith, ap length e), sym (over_none o a (omega (arith, ap length e))) ∙ sym (ap (over o a) e) ∙ l.all)
-
--- ---- a word, byte by byte
-
-pub word_begin : (o : List ℕ) (a : ℕ) (w : List ℕ) → a + length w ≤ length o → Left o a w o (a + 0) w
-word_begin o a w h = rw (add-zero a) (left_begin o a w h)
-
-pub word_more : (o₀ : List ℕ) (a : ℕ) (w o : List ℕ) (i : ℕ) → i < length w → Left o₀ a w o (a + i) (drop i w) → Left o₀ a w (set o (a + i) (get_or w i 0)) (a + (i + 1)) (drop (i + 1) w)
-word_more o₀ a w o i h l =
-    let b = get_or w i 0 in
-    let p = put_byte o (a + i) b (omega (arith, left_room o₀ a w o (a + i) (drop i w) l (b ∷ []) (drop (i + 1) w) (from w i h))) in
-    let e : a + i + 1 ≡ a + (i + 1) = omega arith in
-    rw (← e) (left_put o₀ a w o (a + i) (drop i w) l (b ∷ []) (drop (i + 1) w) (from w i h) (set o (a + i) b) (a + i + 1) p)
-
-pub word_none : (o₀ : List ℕ) (a : ℕ) (w o : List ℕ) (i : ℕ) → length w ≤ i → Left o₀ a w o (a + i) (drop i w) → Put o₀ a w o (a + i)
-word_none o₀ a w o i h l = left_none o₀ a w o (a + i) (drop i w) l (drop_of_length-le w h)
 
 -- ---- numerals
 

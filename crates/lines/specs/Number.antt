@@ -4,12 +4,10 @@
 --   digits s    : the digits at the front of s, as many as stand there
 --   value v ds  : v and then the digits ds, read in tens
 --   proper k d  : k digits, the first of them d, are a number
---   number_of s : the number at the front of s, with how many bytes it takes
+--   number_of s : the number at the front of s, with how many bytes it takes, if one stands there
 --
 -- Assumes nothing.
-use Rattle.std.specs.Prelude.{ℕ, ◌+◌, ◌-◌, ◌*◌, List, [], ◌∷◌, Bool, true, false, cond, length, get_or, leb, eqb}
-use Rattle.lines.specs.declared.Front.{Front}
-use Rattle.lines.specs.declared.Front.TheVariants.{Is, Not}
+use Rattle.std.specs.Prelude.{ℕ, ◌+◌, ◌-◌, ◌*◌, List, [], ◌∷◌, Bool, true, false, Option, None, Some, cond, length, get_or, leb, eqb}
 
 abbrev pub digit : ℕ → Bool
 digit b = cond (leb 48 b) (leb b 57) false
@@ -26,5 +24,5 @@ value v (d ∷ ds) = value (v * 10 + (d - 48)) ds
 abbrev pub proper : ℕ → ℕ → Bool
 proper k d = cond (leb 1 k) (cond (leb k 7) (cond (eqb d 48) (leb k 1) true) false) false
 
-abbrev pub number_of : List ℕ → Front
-number_of s = cond (proper (length (digits s)) (get_or s 0 0)) (Is (value 0 (digits s)) (length (digits s))) Not
+abbrev pub number_of : List ℕ → Option (ℕ × ℕ)
+number_of s = cond (proper (length (digits s)) (get_or s 0 0)) (Some (value 0 (digits s), length (digits s))) None

@@ -3,33 +3,20 @@
 // digits and no leading zero. The writers put bytes from a place on and return the place after them; all others stay.
 #![tactic(auto)]
 
-ghost use Rattle.std.specs.Prelude.{◌≡◌, ◌+◌, ◌<◌, ◌≤◌, not, ltb, length};
+ghost use Rattle.std.specs.Prelude.{◌≡◌, ◌+◌, ◌<◌, ◌≤◌, not, ltb, nat_eq, length, position, take_while};
+ghost use Rattle.std.specs.Char.{is_ascii_digit};
 ghost use Rattle.lines.specs.Text.{line_end_lem, next_start_lem, place_of};
 ghost use Rattle.lines.specs.Part.{PartOf, LineOf};
-ghost use Rattle.lines.specs.Number.{number_of};
+ghost use Rattle.lines.specs.Number.{digits, number_of};
 ghost use Rattle.lines.specs.Words.{starts, alone_of, pair_of};
 ghost use Rattle.lines.specs.Numeral.{numeral, one_line, two_line, Put};
 ghost use Rattle.lines.specs.Reader.{in_text_lem, next_number_lem, start_of, next_of, at_end_lem};
 
-// The number at the front of some bytes and how many bytes it takes.
-#[derive(Clone, Copy)]
-pub enum Front {
-    Is(usize, usize),
-    Not,
-}
-
-// One number and nothing else.
-#[derive(Clone, Copy)]
-pub enum Alone {
-    Only(usize),
-    Other,
-}
-
-// Two numbers with one space between and nothing else.
-#[derive(Clone, Copy)]
-pub enum Pair {
-    Both(usize, usize),
-    Neither,
+// Where the first line feed is.
+fn feed_in(s: &[u8]) -> Option<usize>
+    ensures { result ≡ position (λ b. nat_eq b 10) s.now }
+{
+    s.iter().position(|&b| b == b'\n')
 }
 
 // Where the line that starts at `at` ends: at its line feed, or at the text's end.
@@ -37,14 +24,10 @@ pub fn line_end(s: &[u8], at: usize) -> usize
     requires { at ≤ length s.now }
     ensures { (result ≡ line_end_lem s.now at) × (result ≤ length s.now) }
 {
-    let mut i = at;
-    while i < s.len() {
-        if s[i] == b'\n' {
-            return i;
-        }
-        i += 1;
+    match feed_in(&s[at..]) {
+        Some(i) => at + i,
+        None => s.len(),
     }
-    i
 }
 
 // Where the line after the one at `at` starts, or the text's end.
@@ -54,8 +37,7 @@ pub fn next_start(s: &[u8], at: usize) -> usize
     if s.len() <= at {
         return s.len();
     }
-    let e = line_end(s, at);
-    if e < s.len() { e + 1 } else { s.len() }
+    (line_end(s, at) + 1).min(s.len())
 }
 
 // The part from `a` up to `e`.
@@ -70,10 +52,7 @@ pub fn part<'a>(s: &'a [u8], a: usize, e: usize) -> &'a [u8]
 pub fn in_text(s: &[u8], at: usize) -> usize
     ensures { (result ≡ in_text_lem s.now at) × (result ≤ length s.now) }
 {
-    if at < s.len() {
-        return at;
-    }
-    s.len()
+    at.min(s.len())
 }
 
 // The line that starts at `at`; past the text's end, the empty part there.
@@ -93,20 +72,14 @@ pub fn next_number(s: &[u8], start: usize, line: usize) -> usize
     if s.len() <= start {
         return line;
     }
-    if line < usize::MAX {
-        return line + 1;
-    }
-    line
+    line.saturating_add(1)
 }
 
 // Whether no line starts at `at`: the text ends there, or before.
 pub fn ends(s: &[u8], at: usize) -> bool
     ensures { result ≡ not (ltb at (length s.now)) }
 {
-    if at < s.len() {
-        return false;
-    }
-    true
+    s.len() <= at
 }
 
 // Where line k starts, counted from 0; past the last line, the text's end.
@@ -114,107 +87,68 @@ pub fn place(s: &[u8], k: usize) -> usize
     ensures { (result ≡ place_of s.now k) × (result ≤ length s.now) }
 {
     let mut at: usize = 0;
-    let mut i: usize = 0;
-    while i < k {
+    for _ in 0..k {
         if s.len() <= at {
             return at;
         }
         at = next_start(s, at);
-        i += 1;
     }
     at
 }
 
-fn wide(b: u8) -> usize
-    ensures { result ≡ b }
+// How many digits stand at the front of `s`.
+fn digits_of(s: &[u8]) -> usize
+    ensures { result ≡ length (take_while is_ascii_digit s.now) }
 {
-    b as usize
+    s.iter().take_while(|b| b.is_ascii_digit()).count()
 }
 
-// The number at the front of `s`.
-pub fn number(s: &[u8]) -> Front
+// The number at the front of `s`, and how many bytes it takes.
+pub fn number(s: &[u8]) -> Option<(usize, usize)>
     ensures { result ≡ number_of s.now }
 {
-    let mut i: usize = 0;
+    let k = digits_of(s);
+    if k < 1 || 7 < k {
+        return None;
+    }
+    if s[0] == b'0' && 1 < k {
+        return None;
+    }
     let mut v: usize = 0;
-    while i < s.len() {
-        let d = wide(s[i]);
-        if d < 48 {
-            break;
-        }
-        if 57 < d {
-            break;
-        }
-        if i == 7 {
-            return Front::Not;
-        }
-        v = v * 10 + (d - 48);
-        i += 1;
+    for b in &s[..k] {
+        v = v * 10 + usize::from(b - b'0');
     }
-    if i < 1 {
-        return Front::Not;
-    }
-    if s[0] == b'0' {
-        if i <= 1 {
-            return Front::Is(v, i);
-        }
-        return Front::Not;
-    }
-    Front::Is(v, i)
+    Some((v, k))
 }
 
 // Whether `s` begins with the word `w`.
 pub fn begins(s: &[u8], w: &[u8]) -> bool
     ensures { result ≡ starts w.now s.now }
 {
-    let mut i: usize = 0;
-    while i < w.len() {
-        if s.len() <= i {
-            return false;
-        }
-        if w[i] != s[i] {
-            return false;
-        }
-        i += 1;
-    }
-    true
+    s.starts_with(w)
 }
 
-// Whether `s` is one number and nothing else.
-pub fn one(s: &[u8]) -> Alone
+// The number that `s` is, if it is one and nothing else.
+pub fn one(s: &[u8]) -> Option<usize>
     ensures { result ≡ alone_of s.now }
 {
-    match number(s) {
-        Front::Not => Alone::Other,
-        Front::Is(v, k) => {
-            if k == s.len() {
-                return Alone::Only(v);
-            }
-            Alone::Other
-        }
-    }
+    let (v, k) = number(s)?;
+    if k == s.len() { Some(v) } else { None }
 }
 
-// Whether `s` is two numbers with one space between and nothing else.
-pub fn two(s: &[u8]) -> Pair
+// The two numbers that `s` is, if it is two with one space between and nothing else.
+pub fn two(s: &[u8]) -> Option<(usize, usize)>
     ensures { result ≡ pair_of s.now }
 {
-    match number(s) {
-        Front::Not => Pair::Neither,
-        Front::Is(u, k) => {
-            if s.len() <= k {
-                return Pair::Neither;
-            }
-            if s[k] != b' ' {
-                return Pair::Neither;
-            }
-            let at = k + 1;
-            match one(&s[at..]) {
-                Alone::Only(v) => Pair::Both(u, v),
-                Alone::Other => Pair::Neither,
-            }
-        }
+    let (u, k) = number(s)?;
+    if s.len() <= k {
+        return None;
     }
+    if s[k] != b' ' {
+        return None;
+    }
+    let v = one(&s[k + 1..])?;
+    Some((u, v))
 }
 
 fn figure(n: usize) -> u8
@@ -269,12 +203,9 @@ pub fn put_word(out: &mut [u8], at: usize, w: &[u8]) -> usize
     requires { at + length w.now ≤ length out.old }
     ensures { Put out.old at w.now out.new result }
 {
-    let mut i: usize = 0;
-    while i < w.len() {
-        out[at + i] = w[i];
-        i += 1;
-    }
-    at + i
+    let end = at + w.len();
+    out[at..end].copy_from_slice(w);
+    end
 }
 
 // Puts a line at `at`: a word, one number and a line feed.
@@ -364,13 +295,11 @@ pub fn line_no<'a>(s: &'a [u8], k: usize) -> &'a [u8]
     ensures { LineOf s.entry (place_of s.now k) result }
 {
     let mut r = Reader::new(s);
-    let mut i: usize = 0;
-    while i < k {
+    for _ in 0..k {
         if r.at_end() {
             break;
         }
         r = r.next();
-        i += 1;
     }
     r.here()
 }

@@ -7,14 +7,14 @@ use mathlib.Core.Path.{◌≡◌, refl}
 use mathlib.Core.List.{List, [], ◌∷◌}
 use mathlib.Core.Bool.{true}
 use Rattle.lists.specs.Expect.{spot_of}
-use Rattle.lists.specs.Read.{read_of}
+use Rattle.lists.specs.Read.{read_of, answer_in}
 use Rattle.lists.specs.Promise.{Numbers, read_numbers}
 
 abbrev at : ℕ → ℕ → Numbers
 at r c = record { number = r; place = 1; column = c; size = 0 }
 
 abbrev read : List ℕ → Numbers
-read s = read_numbers (read_of true s 64).answer
+read s = read_numbers (answer_in (read_of true s 64))
 
 -- ""
 empty : read (10 ∷ []) ≡ at 10 1
@@ -122,7 +122,7 @@ unfolding spot_of
 c_unended = refl
 
 -- a later line: "c" and a space, "p edge 2 1", "e 1"
-later : read_numbers (read_of true (99 ∷ 32 ∷ 10 ∷ 112 ∷ 32 ∷ 101 ∷ 100 ∷ 103 ∷ 101 ∷ 32 ∷ 50 ∷ 32 ∷ 49 ∷ 10 ∷ 101 ∷ 32 ∷ 49 ∷ 10 ∷ []) 64).answer
+later : read_numbers (answer_in (read_of true (99 ∷ 32 ∷ 10 ∷ 112 ∷ 32 ∷ 101 ∷ 100 ∷ 103 ∷ 101 ∷ 32 ∷ 50 ∷ 32 ∷ 49 ∷ 10 ∷ 101 ∷ 32 ∷ 49 ∷ 10 ∷ []) 64))
     ≡ record { number = 22; place = 3; column = 4; size = 0 }
 unfolding spot_of
 later = refl
@@ -133,7 +133,7 @@ unfolding spot_of
 first_of_all = refl
 
 -- and a line before it first: "e 9 9", then "x"
-line_before : read_numbers (read_of true (101 ∷ 32 ∷ 57 ∷ 32 ∷ 57 ∷ 10 ∷ 120 ∷ 10 ∷ []) 64).answer ≡ record { number = 11; place = 1; column = 0; size = 0 }
+line_before : read_numbers (answer_in (read_of true (101 ∷ 32 ∷ 57 ∷ 32 ∷ 57 ∷ 10 ∷ 120 ∷ 10 ∷ []) 64)) ≡ record { number = 11; place = 1; column = 0; size = 0 }
 unfolding spot_of
 line_before = refl
 

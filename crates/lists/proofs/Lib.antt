@@ -1,4 +1,3 @@
-pub mod Shapes
 pub mod Reach
 pub mod Columns
 pub mod Permitted
@@ -6,8 +5,6 @@ pub mod PatternLaws
 pub mod Spots
 pub mod Fold
 pub mod Alike
-pub mod Copy
-pub mod Answers
 pub mod EdgeLaws
 pub mod Writes
 pub mod Marks

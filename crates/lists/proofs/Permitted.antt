@@ -17,23 +17,16 @@ use lib.Dec.{T, leb, eqb, eqb→eq}
 use lib.ListN.{length, drop, get_or}
 use lib.Seq.{drop-drop}
 use Rattle.sets.proofs.TestLaws.{T-ext, eqb_of}
+use Rattle.std.specs.Prelude.{Option, None, Some, is_some}
 use Rattle.lines.specs.Number.{digit, digits, value, proper}
 use Rattle.lines.specs.Words.{starts, whole, alone_of, besides, second, pair_of}
-use Rattle.lines.specs.declared.Front.TheVariants.{Is, Not}
-use Rattle.lines.specs.declared.Alone.{Alone}
-use Rattle.lines.specs.declared.Alone.TheVariants.{Only, Other}
-use Rattle.lines.specs.declared.Pair.{Pair}
-use Rattle.lines.specs.declared.Pair.TheVariants.{Both, Neither}
 use Rattle.lists.specs.Shape.{c_word, p_word, e_word, as_p, as_e, shape_with, shape_of}
 use Rattle.lists.specs.declared.Shape.{Shape}
-use Rattle.lists.specs.declared.Shape.TheVariants.{Comment, P, E, Bad}
+use Rattle.lists.specs.declared.Shape.TheVariants.{Comment}
 use Rattle.lists.specs.Expect.{letter, space, number, more, anything, Pieces, next, ends?, onward, takes, permits, spelled, two_numbers, clash_lines, permitted}
 
-abbrev pub shaped : Shape → Bool
-shaped Bad = false
-shaped Comment = true
-shaped (P n m) = true
-shaped (E u v) = true
+abbrev pub shaped : Option Shape → Bool
+shaped s = is_some s
 
 -- ---- a word
 
@@ -122,14 +115,6 @@ takes_number (b ∷ l) g = go (digit b)
 
 -- ---- one number, and two
 
-abbrev only : Alone → Bool
-only (Only v) = true
-only Other = false
-
-abbrev both : Pair → Bool
-both (Both u v) = true
-both Neither = false
-
 digits_le : (l : List ℕ) → length (digits l) ≤ length l
 digits_le [] = zero-le
 digits_le (b ∷ l) = go (digit b) (digits_le l)
@@ -147,14 +132,14 @@ takes_end (suc n) (b ∷ l) h =
     (λ t. eqb_of (suc n) (suc (length l)) (ap suc (eqb→eq n (length l) t))) (λ t. let e = eqb→eq (suc n) (suc (length l)) t in
     eqb_of n (length l) (omega arith))
 
-takes_alone : (l : List ℕ) → takes l (number ∷ []) ≡ only (alone_of l)
+takes_alone : (l : List ℕ) → takes l (number ∷ []) ≡ is_some (alone_of l)
 takes_alone l = takes_number l [] ∙ go (proper (length (digits l)) (get_or l 0 0))
   where
-    lone : (y : Bool) → y ≡ only (cond y (Only (value 0 (digits l))) Other)
+    lone : (y : Bool) → y ≡ is_some (cond y (Some (value 0 (digits l))) None)
     lone true = refl
     lone false = refl
 
-    go : (y : Bool) → cond y (takes (drop (length (digits l)) l) []) false ≡ only (whole l (cond y (Is (value 0 (digits l)) (length (digits l))) Not))
+    go : (y : Bool) → cond y (takes (drop (length (digits l)) l) []) false ≡ is_some (whole l (cond y (Some (value 0 (digits l), length (digits l))) None))
     go true = takes_end (length (digits l)) l (digits_le l) ∙ lone (eqb (length (digits l)) (length l))
     go false = refl
 
@@ -168,22 +153,22 @@ space_at zero (b ∷ l) = go (eqb b 32) refl
 space_at (suc n) [] = refl
 space_at (suc n) (b ∷ l) = space_at n l
 
-takes_pair : (l : List ℕ) → takes l two_numbers ≡ both (pair_of l)
+takes_pair : (l : List ℕ) → takes l two_numbers ≡ is_some (pair_of l)
 takes_pair l = takes_number l (space ∷ number ∷ []) ∙ go (proper (length (digits l)) (get_or l 0 0))
   where
     k : ℕ
     k = length (digits l)
 
-    beside : (u : ℕ) (a : Alone) → only a ≡ both (besides u a)
-    beside u (Only v) = refl
-    beside u Other = refl
+    beside : (u : ℕ) (a : Option ℕ) → is_some a ≡ is_some (besides u a)
+    beside u (Some v) = refl
+    beside u None = refl
 
-    gap : (y : Bool) (u : ℕ) (x : List ℕ) → cond y (takes x (number ∷ [])) false ≡ both (cond y (besides u (alone_of x)) Neither)
+    gap : (y : Bool) (u : ℕ) (x : List ℕ) → cond y (takes x (number ∷ [])) false ≡ is_some (cond y (besides u (alone_of x)) None)
     gap true u x = takes_alone x ∙ beside u (alone_of x)
     gap false u x = refl
 
-    go : (y : Bool) → cond y (takes (drop (length (digits l)) l) (space ∷ number ∷ [])) false ≡ both
-        (second l (cond y (Is (value 0 (digits l)) (length (digits l))) Not))
+    go : (y : Bool) → cond y (takes (drop (length (digits l)) l) (space ∷ number ∷ [])) false ≡ is_some
+        (second l (cond y (Some (value 0 (digits l), length (digits l))) None))
     go true =
         takes_spelled (32 ∷ []) (drop (length (digits l)) l) (number ∷ [])
         ∙ ap (λ (x : List ℕ). cond (starts (32 ∷ []) (drop (length (digits l)) l)) (takes x (number ∷ [])) false) (drop-drop 1 (length (digits l)) l)
@@ -212,29 +197,27 @@ permits_shaped c l =
     (takes_spelled c l (anything ∷ []) ∙ ap (λ (y : Bool). cond (starts c l) y false) (takes_anything (drop (length c) l)))
     ∙ ap (λ (y : Bool). cond (starts c l) true false || (y || (takes l (spelled e_word two_numbers) || false)))
     (takes_spelled p_word l two_numbers ∙ ap (λ (y : Bool). cond (starts p_word l) y false) (takes_pair (drop 7 l)))
-    ∙ ap (λ (y : Bool). cond (starts c l) true false || (cond (starts p_word l) (both (pair_of (drop 7 l))) false || (y || false)))
+    ∙ ap (λ (y : Bool). cond (starts c l) true false || (cond (starts p_word l) (is_some (pair_of (drop 7 l))) false || (y || false)))
     (takes_spelled e_word l two_numbers ∙ ap (λ (y : Bool). cond (starts e_word l) y false) (takes_pair (drop 2 l)))
     ∙ go (starts c l) (starts p_word l) (starts e_word l) (p_not_e l) (pair_of (drop 7 l)) (pair_of (drop 2 l))
   where
-    go : (x y z : Bool) → (y ≡ true → z ≡ false) → (p q : Pair)
-        → (cond x true false || (cond y (both p) false || (cond z (both q) false || false))) ≡ shaped
-        (cond x Comment (cond y (as_p p) (cond z (as_e q) Bad)))
+    go : (x y z : Bool) → (y ≡ true → z ≡ false) → (p q : Option (ℕ × ℕ))
+        → (cond x true false || (cond y (is_some p) false || (cond z (is_some q) false || false))) ≡ shaped
+        (cond x (Some Comment) (cond y (as_p p) (cond z (as_e q) None)))
     go true y z h p q = refl
-    go false true z h (Both n m) q = refl
-    go false true z h Neither q = ap (λ (w : Bool). cond w (both q) false || false) (h refl)
-    go false false true h p (Both u v) = refl
-    go false false true h p Neither = refl
+    go false true z h (Some x) q = refl
+    go false true z h None q = ap (λ (w : Bool). cond w (is_some q) false || false) (h refl)
+    go false false true h p (Some x) = refl
+    go false false true h p None = refl
     go false false false h p q = refl
 
 pub permitted_shaped : (l : List ℕ) → permits permitted l ≡ shaped (shape_of l)
 permitted_shaped = permits_shaped c_word
 
--- a line is of a permitted shape or bad, and so permitted or not
-pub permitted_bad : (l : List ℕ) → (permits permitted l ≡ false) ↔ (shape_of l ≡ Bad)
+-- a line is of a permitted shape or of none, and so permitted or not
+pub permitted_bad : (l : List ℕ) → (permits permitted l ≡ false) ↔ (shape_of l ≡ None)
 permitted_bad l = (λ e. bad (shape_of l) (sym (permitted_shaped l) ∙ e), λ e. permitted_shaped l ∙ ap shaped e)
   where
-    bad : (s : Shape) → shaped s ≡ false → s ≡ Bad
-    bad Bad e = refl
-    bad Comment e = absurd (subst T e tt)
-    bad (P n m) e = absurd (subst T e tt)
-    bad (E u v) e = absurd (subst T e tt)
+    bad : (s : Option Shape) → shaped s ≡ false → s ≡ None
+    bad None e = refl
+    bad (Some s) e = absurd (subst T e tt)

@@ -14,6 +14,7 @@ use borrow.Author.Tests.{le-leb, lt-leb, eq-eqb, ne_eqb}
 use lib.Dec.{T, leb}
 use lib.ListN.{length, take, drop, get_or, length-replicate}
 use lib.Seq.{ext_get_or, get_or-take, length-take-le}
+use Rattle.std.specs.Prelude.{Option, Some, Result, Ok, Err}
 use Rattle.sets.specs.Lists.{In, NoDup}
 use Rattle.sets.proofs.TestLaws.{T?, T-ext, T→false}
 use Rattle.sets.proofs.SetLaws.{same_members}
@@ -24,16 +25,16 @@ use Rattle.lines.proofs.Back.{pair_back, two_back}
 use Rattle.lists.specs.Expect.{spot_of}
 use Rattle.lists.specs.declared.Spot.{Spot}
 use Rattle.lists.specs.Shape.{p_word, e_word, as_p, as_e, shape_of}
-use Rattle.lists.specs.Read.{no_rows_up_to, accepted, refused_up_to, step_up_to, join, finish_up_to, after_up_to, read_from_up_to, start, read_up_to, most_entries, longest_text, no_rows, read_of, written_of}
+use Rattle.lists.specs.Read.{no_rows_up_to, accepted, lone, refused, step_up_to, join, finish, after, read_from_up_to, start, read_up_to, most_entries, longest_text, no_rows, read_of, answer_in, written_of}
 use Rattle.lists.specs.Edges.{edges}
 use Rattle.lists.specs.Write.{edges_text, text_of}
 use Rattle.lists.specs.declared.Shape.TheVariants.{E}
 use Rattle.lists.specs.declared.Fault.TheVariants.{Room, Long, Repeat}
 use Rattle.lists.specs.declared.Head.{Head}
-use Rattle.lists.specs.declared.Found.{Found}
-use Rattle.lists.specs.declared.Reading.TheVariants.{Read}
+use Rattle.lists.specs.declared.Unread.{Unread}
+use Rattle.lists.specs.declared.Gathered.{Gathered}
 use Rattle.lists.specs.declared.Step.{Step}
-use Rattle.lists.specs.declared.Step.TheVariants.{Stop, Go, Edge}
+use Rattle.lists.specs.declared.Step.TheVariants.{Go, Edge}
 use Rattle.lists.proofs.Fold.{join_length, read_short}
 use Rattle.lists.proofs.Marks.{joins, Below, Among, join_was, joins_length, joins_was, joins_new, none_bare}
 use Rattle.lists.proofs.EdgeMembers.{edges-In, In-edges, edges_no_dup, edges_le}
@@ -42,8 +43,11 @@ use Rattle.lists.proofs.Lengths.{list_most}
 -- ---- the e lines
 
 -- after the p line, with c edges read
-abbrev known : ℕ → ℕ → ℕ → Head
-known n m c = record { seen = true; n = n; m = m; count = c }
+abbrev head : ℕ → ℕ → ℕ → Head
+head n m c = record { n = n; m = m; count = c }
+
+abbrev known : ℕ → ℕ → ℕ → Option Head
+known n m c = Some (head n m c)
 
 -- each edge has its smaller end first, and both ends below n
 abbrev Rising : ℕ → List (ℕ × ℕ) → Type 0
@@ -57,7 +61,7 @@ unrepeated : (plain : Bool) (g : List ℕ) (i j : ℕ) → ¬ T (matrix g i j) �
 unrepeated true g i j h = T→false (matrix g i j) h
 unrepeated false g i j h = refl
 
-edge_shape : (i j : ℕ) → i + 1 < 10000000 → j + 1 < 10000000 → shape_of (e_word ++ (numeral (i + 1) ++ 32 ∷ numeral (j + 1))) ≡ E (i + 1) (j + 1)
+edge_shape : (i j : ℕ) → i + 1 < 10000000 → j + 1 < 10000000 → shape_of (e_word ++ (numeral (i + 1) ++ 32 ∷ numeral (j + 1))) ≡ Some (E (i + 1) (j + 1))
 edge_shape i j hi hj = ap as_e (pair_back (i + 1) (j + 1) hi hj)
 
 -- where one edge more is joined, the others are new still
@@ -73,8 +77,8 @@ new_later e es n g h d f w x m t =
     pair_same x y p q = rw (p, q)
 
 module _ (plain : Bool) (most : ℕ) where
-  edge_step : (n m c room : ℕ) (p : Spot) (i j : ℕ) → i < j → j < n → step_up_to most (known n m c) room p (E (i + 1) (j + 1))
-      ≡ Edge (known n m (c + 1)) i j
+  edge_step : (n m c room : ℕ) (p : Spot) (i j : ℕ) → i < j → j < n → step_up_to most (known n m c) room p (Some (E (i + 1) (j + 1)))
+      ≡ Ok (Edge (head n m (c + 1)) i j)
   edge_step n m c room p i j a b =
       let u : i + 1 - 1 ≡ i = omega arith in
       let v : j + 1 - 1 ≡ j = omega arith in
@@ -86,11 +90,11 @@ module _ (plain : Bool) (most : ℕ) where
       let p = spot_of (e_word ++ (numeral (i + 1) ++ 32 ∷ numeral (j + 1))) in
       let s = ap (step_up_to most (known n m c) room p) (edge_shape i j (omega arith) (omega arith)) ∙ edge_step n m c room p i j a b in
       ap (λ (x : Text). read_from_up_to plain most x room k (known n m c) g) (two_back e_word (i + 1) (j + 1) t ((λ e. omega arith), ((λ e. omega arith), tt)))
-      ∙ ap (λ (x : Step). after_up_to plain most x g k (read_from_up_to plain most (lines_of t) room (k + 1))) s
-      ∙ ap (λ (x : Bool). cond x (refused_up_to most Repeat k) (read_from_up_to plain most (lines_of t) room (k + 1) (known n m (c + 1)) (join g i j))) (unrepeated plain g i j new)
+      ∙ ap (λ (x : Result Step Spot). after plain x g k (read_from_up_to plain most (lines_of t) room (k + 1))) s
+      ∙ ap (λ (x : Bool). cond x (refused Repeat k) (read_from_up_to plain most (lines_of t) room (k + 1) (known n m (c + 1)) (join g i j))) (unrepeated plain g i j new)
 
   edges_read : (es : List (ℕ × ℕ)) (n m c room k : ℕ) (g : List ℕ) → Rising n es → n < 10000000 → NoDup es → n ≤ length g → New g es
-      → read_from_up_to plain most (lines_of (edges_text es)) room k (known n m c) g ≡ finish_up_to most (known n m (c + length es)) (joins es g) (k + length es)
+      → read_from_up_to plain most (lines_of (edges_text es)) room k (known n m c) g ≡ finish (known n m (c + length es)) (joins es g) (k + length es)
   edges_read [] n m c room k g h d u f w = rw (add-zero c, add-zero k)
   edges_read (e ∷ es) n m c room k g h d u f w =
       let z = length es in
@@ -111,12 +115,12 @@ abbrev pub Sevens : List ℕ → Type 0
 Sevens rows = (length rows < 10000000) × (length (edges rows) < 10000000)
 
 module _ (plain : Bool) (most : ℕ) (rows : List ℕ) (room : ℕ) (h : length rows ≤ most) (w : Sevens rows) where
-  abbrev lines-of : Found
+  abbrev lines-of : Result Gathered Unread
   lines-of = read_from_up_to plain most (lines_of (text_of rows)) room 1 start (no_rows_up_to most)
 
   -- the p line, whatever it does
-  head_read : (st : Step) → cond (leb (length rows) room) (Go (known (length rows) (length (edges rows)) 0)) (Stop Room) ≡ st
-      → lines-of ≡ after_up_to plain most st (no_rows_up_to most) 1 (read_from_up_to plain most (lines_of (edges_text (edges rows))) room 2)
+  head_read : (st : Result Step Spot) → cond (leb (length rows) room) (Ok (Go (known (length rows) (length (edges rows)) 0))) (Err (lone Room)) ≡ st
+      → lines-of ≡ after plain st (no_rows_up_to most) 1 (read_from_up_to plain most (lines_of (edges_text (edges rows))) room 2)
   head_read st e =
       let n = length rows in
       let es = edges rows in
@@ -129,19 +133,19 @@ module _ (plain : Bool) (most : ℕ) (rows : List ℕ) (room : ℕ) (h : length 
         (λ e. omega arith),
         ((λ e. omega arith), ((λ e. omega arith), ((λ e. omega arith), ((λ e. omega arith), ((λ e. omega arith), ((λ e. omega arith), tt)))))),
       ))
-      ∙ ap (λ (x : Step). after_up_to plain most x (no_rows_up_to most) 1 (read_from_up_to plain most (lines_of (edges_text es)) room 2)) s
+      ∙ ap (λ (x : Result Step Spot). after plain x (no_rows_up_to most) 1 (read_from_up_to plain most (lines_of (edges_text es)) room 2)) s
 
   lines_read : length rows ≤ room → lines-of ≡ accepted (length rows) (joins (edges rows) (no_rows_up_to most))
   lines_read k =
       let m = length (edges rows) in
       let v : 0 + m ≡ m = omega arith in
-      head_read (Go (known (length rows) m 0)) (rw (le-leb (length rows) room k))
+      head_read (Ok (Go (known (length rows) m 0))) (rw (le-leb (length rows) room k))
       ∙ edges_read plain most (edges rows) (length rows) m 0 room 2 (no_rows_up_to most) (rising rows) w.0 (edges_no_dup rows) (omega (arith, length-replicate {A = ℕ} most 0))
       (λ e q t. none_bare most e.0 e.1 t)
       ∙ rw (v, eq-eqb m m refl)
 
-  lines_roomless : room < length rows → lines-of ≡ refused_up_to most Room 1
-  lines_roomless k = head_read (Stop Room) (rw (lt-leb (length rows) room k))
+  lines_roomless : room < length rows → lines-of ≡ refused Room 1
+  lines_roomless k = head_read (Err (lone Room)) (rw (lt-leb (length rows) room k))
 
   pub text_up_to_read : (longest : ℕ) → length rows ≤ room → length (text_of rows) ≤ longest
       → read_up_to plain most longest (text_of rows) room ≡ accepted (length rows) (joins (edges rows) (no_rows_up_to most))
@@ -151,7 +155,7 @@ module _ (plain : Bool) (most : ℕ) (rows : List ℕ) (room : ℕ) (h : length 
 pub text_up_to_alike : (plain other : Bool) (most longest : ℕ) (rows : List ℕ) (room : ℕ) → length rows ≤ most → Sevens rows
     → read_up_to plain most longest (text_of rows) room ≡ read_up_to other most longest (text_of rows) room
 text_up_to_alike plain other most longest rows room h w =
-    ap (λ (x : Found). cond (leb (length (text_of rows)) longest) x (refused_up_to most Long 0)) (go (dec_lt room (length rows)))
+    ap (λ (x : Result Gathered Unread). cond (leb (length (text_of rows)) longest) x (refused Long 0)) (go (dec_lt room (length rows)))
   where
     go : Dec (room < length rows) → lines-of plain most rows room h w ≡ lines-of other most rows room h w
     go (yes k) = lines_roomless plain most rows room h w k ∙ sym (lines_roomless other most rows room h w k)
@@ -206,10 +210,10 @@ module _ (most : ℕ) (rows : List ℕ) (sound : SoundUpTo most rows) where
 
   -- the law
   pub read_up_to_back : (plain : Bool) (longest : ℕ) (old : List ℕ) → n ≤ length old → Sevens rows → length (text_of rows) ≤ longest
-      → ((read_up_to plain most longest (text_of rows) (length old)).answer ≡ Read n) × (written_of (read_up_to plain most longest (text_of rows) (length old)) old ≡ rows ++ drop n old)
+      → (answer_in (read_up_to plain most longest (text_of rows) (length old)) ≡ Ok n) × (written_of (read_up_to plain most longest (text_of rows) (length old)) old ≡ rows ++ drop n old)
   read_up_to_back plain longest old k w z =
       let e = text_up_to_read plain most rows (length old) few w longest k z in
-      (ap (λ (f : Found). f.answer) e, ap (λ (f : Found). written_of f old) e ∙ ap (λ (l : List ℕ). l ++ drop n old) rows_made)
+      (ap answer_in e, ap (λ (f : Result Gathered Unread). written_of f old) e ∙ ap (λ (l : List ℕ). l ++ drop n old) rows_made)
 
 -- ---- with today's limits
 
@@ -221,7 +225,7 @@ pub text_read : (plain : Bool) (rows : List ℕ) (room : ℕ) → length rows �
 text_read plain rows room h k = text_up_to_read plain most_entries rows room h (sevens rows h) longest_text k (omega (arith, list_most rows h))
 
 pub read_back : (plain : Bool) (rows : List ℕ) → Sound rows → (old : List ℕ) → length rows ≤ length old
-    → ((read_of plain (text_of rows) (length old)).answer ≡ Read (length rows))
+    → (answer_in (read_of plain (text_of rows) (length old)) ≡ Ok (length rows))
     × (written_of (read_of plain (text_of rows) (length old)) old ≡ rows ++ drop (length rows) old)
 read_back plain rows sound old k =
     let h = sound.apart.inside.few in

@@ -5,28 +5,28 @@
 use Prim.Native.Nat.{ℕ, ◌+◌, ◌-◌, ◌≤◌, ◌<◌}
 use mathlib.Core.Path.{◌≡◌, refl, sym, ap, subst, ◌∙◌}
 use mathlib.Core.List.{List}
-use mathlib.Core.Bool.{Bool, true, false, ◌&&◌}
+use mathlib.Core.Bool.{Bool, ◌&&◌}
 use mathlib.Core.Logic.{inl, inr, ⊎_elim}
 use native.Mathlib.Omega.{arith}
 use borrow.Author.Tests.{leb-true, eqb-false}
 use lib.Dec.{T, leb, eqb}
 use lib.ListN.{length, take, length-replicate}
 use lib.Seq.{get_or-take, length-take-le}
+use Rattle.std.specs.Prelude.{Option, None, Some, Result, Ok, Err}
 use Rattle.sets.specs.Set.{has}
 use Rattle.clashes.specs.Matrix.{matrix, SoundUpTo, Sound}
 use Rattle.lines.specs.Text.{Text, done, unended, ended, lines_of}
 use Rattle.lines.proofs.Basics.{cond_cases}
 use Rattle.lists.specs.Shape.{shape_of}
 use Rattle.lists.specs.Expect.{spot_of}
-use Rattle.lists.specs.Read.{no_rows_up_to, inside, edge_of, step_up_to, join, after_up_to, read_from_up_to, start, read_up_to, most_entries, longest_text, read_of}
+use Rattle.lists.specs.Read.{no_rows_up_to, inside, edge_of, step_up_to, join, after, read_from_up_to, start, read_up_to, most_entries, longest_text, read_of}
 use Rattle.lists.specs.declared.Shape.{Shape}
-use Rattle.lists.specs.declared.Shape.TheVariants.{Comment, P, E, Bad}
+use Rattle.lists.specs.declared.Shape.TheVariants.{Comment, P, E}
 use Rattle.lists.specs.declared.Head.{Head}
-use Rattle.lists.specs.declared.Found.{Found}
-use Rattle.lists.specs.declared.Reading.{Reading}
-use Rattle.lists.specs.declared.Reading.TheVariants.{Read, Refused}
+use Rattle.lists.specs.declared.Unread.{Unread}
+use Rattle.lists.specs.declared.Gathered.{Gathered}
 use Rattle.lists.specs.declared.Step.{Step}
-use Rattle.lists.specs.declared.Step.TheVariants.{StopAt, Stop, Go, Edge}
+use Rattle.lists.specs.declared.Step.TheVariants.{Go, Edge}
 use Rattle.lists.specs.declared.Spot.{Spot}
 use Rattle.lists.proofs.Fold.{inside_is, join_length}
 use Rattle.lists.proofs.Marks.{join_was, join_old, join_new, none_bare}
@@ -38,24 +38,21 @@ pub record Fair (n : ℕ) (g : List ℕ) (a b : ℕ) : Type 0 where
   pub apart : a ≡ b → ⊥
   pub back : T (matrix g b a)
 
-seen_apart : {A : Type 0} → true ≡ false → A
-seen_apart e = absurd (subst T e tt)
-
 module _ (most : ℕ) where
   pub record Clean (n : ℕ) (g : List ℕ) : Type 0 where
     pub few : n ≤ most
     pub size : length g ≡ most
     pub bits : (a b : ℕ) → T (matrix g a b) → Fair n g a b
 
-  pub record Known (h : Head) (g : List ℕ) : Type 0 where
-    pub clean : Clean h.n g
-    -- before the p line there is no entry
-    pub fresh : h.seen ≡ false → h.n ≡ 0
+  -- before the p line there is no entry
+  abbrev pub Known : Option Head → List ℕ → Type 0
+  Known None g = Clean 0 g
+  Known (Some h) g = Clean h.n g
 
   -- ---- a step keeps it
 
-  clean_none : (n m : ℕ) (g : List ℕ) → n ≡ 0 → m ≤ most → Clean n g → Clean m g
-  clean_none n m g z h c = record { few = h; size = c.size; bits = λ a b t. absurd (let x = (c.bits a b t).first in omega arith) }
+  clean_none : (m : ℕ) (g : List ℕ) → m ≤ most → Clean 0 g → Clean m g
+  clean_none m g h c = record { few = h; size = c.size; bits = λ a b t. absurd (let x = (c.bits a b t).first in omega arith) }
 
   clean_join : (n : ℕ) (g : List ℕ) (i j : ℕ) → i < n → j < n → (i ≡ j → ⊥) → Clean n g → Clean n (join g i j)
   clean_join n g i j hi hj d c =
@@ -75,57 +72,53 @@ module _ (most : ℕ) where
             (join_was g i j li lj a b t);
       }
 
-  abbrev After : List ℕ → Step → Type 0
-  After g (StopAt p) = Unit {0}
-  After g (Stop f) = Unit {0}
-  After g (Go h) = Known h g
-  After g (Edge h i j) = Known h (join g i j)
+  abbrev After : List ℕ → Result Step Spot → Type 0
+  After g (Err p) = Unit {0}
+  After g (Ok (Go h)) = Known h g
+  After g (Ok (Edge h i j)) = Clean h.n (join g i j)
 
-  known_edge : (h : Head) (g : List ℕ) (u v : ℕ) → Known h g → After g (edge_of h u v)
+  known_edge : (h : Head) (g : List ℕ) (u v : ℕ) → Clean h.n g → After g (edge_of h u v)
   known_edge h g u v k =
       cond_cases (After g) (inside h.n u) _ _
       (λ iu. cond_cases (After g) (inside h.n v) _ _
       (λ iv. let x = inside_is h.n u iu in let y = inside_is h.n v iv in
       cond_cases (After g) (eqb u v) _ _ (λ _. tt)
-      (λ e. let d = eqb-false u v e in
-      record { clean = clean_join h.n g (u - 1) (v - 1) (omega arith) (omega arith) (λ q. d (omega arith)) k.clean; fresh = seen_apart }))
+      (λ e. let d = eqb-false u v e in clean_join h.n g (u - 1) (v - 1) (omega arith) (omega arith) (λ q. d (omega arith)) k))
       (λ _. tt))
       (λ _. tt)
 
-  known_step : (h : Head) (g : List ℕ) (room : ℕ) (p : Spot) (s : Shape) → Known h g → After g (step_up_to most h room p s)
-  known_step h g room p Bad k = tt
-  known_step h g room p Comment k = k
-  known_step h g room p (P n m) k =
-      cond_cases (After g) h.seen _ _ (λ _. tt)
-      (λ e. cond_cases (After g) (leb n most) _ _
-      (λ l. cond_cases (After g) (leb n room) _ _ (λ _. record { clean = clean_none h.n n g (k.fresh e) (leb-true n most l) k.clean; fresh = seen_apart }) (λ _. tt))
-      (λ _. tt))
-  known_step h g room p (E u v) k = cond_cases (After g) h.seen _ _ (λ _. known_edge h g u v k) (λ _. tt)
+  known_step : (h : Option Head) (g : List ℕ) (room : ℕ) (p : Spot) (s : Option Shape) → Known h g → After g (step_up_to most h room p s)
+  known_step h g room p None k = tt
+  known_step h g room p (Some Comment) k = k
+  known_step (Some h) g room p (Some (P n m)) k = tt
+  known_step None g room p (Some (P n m)) k =
+      cond_cases (After g) (leb n most) _ _
+      (λ l. cond_cases (After g) (leb n room) _ _ (λ _. clean_none n g (leb-true n most l) k) (λ _. tt))
+      (λ _. tt)
+  known_step (Some h) g room p (Some (E u v)) k = known_edge h g u v k
+  known_step None g room p (Some (E u v)) k = tt
 
   -- ---- and so a text does
 
-  abbrev Cleans : Reading → List ℕ → Type 0
-  Cleans (Read n) g = Clean n g
-  Cleans (Refused f k c) g = Unit {0}
+  abbrev Cleaned : Result Gathered Unread → Type 0
+  Cleaned (Ok f) = Clean f.n f.rows
+  Cleaned (Err u) = Unit {0}
 
-  abbrev Cleaned : Found → Type 0
-  Cleaned f = Cleans f.answer f.rows
-
-  from_clean : (plain : Bool) (t : Text) (room l : ℕ) (h : Head) (g : List ℕ) → Known h g → Cleaned (read_from_up_to plain most t room l h g)
-  from_clean plain done room l h g k = cond_cases Cleaned h.seen _ _ (λ _. cond_cases Cleaned (eqb h.count h.m) _ _ (λ _. k.clean) (λ _. tt)) (λ _. tt)
+  from_clean : (plain : Bool) (t : Text) (room l : ℕ) (h : Option Head) (g : List ℕ) → Known h g → Cleaned (read_from_up_to plain most t room l h g)
+  from_clean plain done room l None g k = tt
+  from_clean plain done room l (Some h) g k = cond_cases Cleaned (eqb h.count h.m) _ _ (λ _. k) (λ _. tt)
   from_clean plain (unended x) room l h g k = tt
   from_clean plain (ended x t) room l h g k =
       go (step_up_to most h room (spot_of x) (shape_of x)) (known_step h g room (spot_of x) (shape_of x) k) (from_clean plain t room (l + 1))
     where
-      go : (st : Step) → After g st → ((h : Head) (g : List ℕ) → Known h g → Cleaned (read_from_up_to plain most t room (l + 1) h g))
-          → Cleaned (after_up_to plain most st g l (read_from_up_to plain most t room (l + 1)))
-      go (StopAt p) d r = tt
-      go (Stop f) d r = tt
-      go (Go y) d r = r y g d
-      go (Edge y i j) d r = cond_cases Cleaned (plain && matrix g i j) _ _ (λ _. tt) (λ _. r y (join g i j) d)
+      go : (st : Result Step Spot) → After g st → ((h : Option Head) (g : List ℕ) → Known h g → Cleaned (read_from_up_to plain most t room (l + 1) h g))
+          → Cleaned (after plain st g l (read_from_up_to plain most t room (l + 1)))
+      go (Err p) d r = tt
+      go (Ok (Go y)) d r = r y g d
+      go (Ok (Edge y i j)) d r = cond_cases Cleaned (plain && matrix g i j) _ _ (λ _. tt) (λ _. r (Some y) (join g i j) d)
 
   start_known : Known start (no_rows_up_to most)
-  start_known = record { clean = record { few = omega arith; size = length-replicate most 0; bits = λ a b t. absurd (none_bare most a b t) }; fresh = λ _. refl }
+  start_known = record { few = omega arith; size = length-replicate most 0; bits = λ a b t. absurd (none_bare most a b t) }
 
   -- ---- the first n rows
 
@@ -150,9 +143,8 @@ module _ (plain : Bool) (most longest : ℕ) where
   read_clean : (s : List ℕ) (room : ℕ) → Cleaned most (read_up_to plain most longest s room)
   read_clean s room = cond_cases (Cleaned most) (leb (length s) longest) _ _ (λ _. from_clean most plain (lines_of s) room 1 start (no_rows_up_to most) (start_known most)) (λ _. tt)
 
-  pub read_up_to_sound : (s : List ℕ) (room n : ℕ) → (read_up_to plain most longest s room).answer ≡ Read n
-      → SoundUpTo most (take n (read_up_to plain most longest s room).rows)
-  read_up_to_sound s room n e = clean_sound most n (read_up_to plain most longest s room).rows (subst (λ (a : Reading). Cleans most a (read_up_to plain most longest s room).rows) e (read_clean s room))
+  pub read_up_to_sound : (s : List ℕ) (room : ℕ) (f : Gathered) → read_up_to plain most longest s room ≡ Ok f → SoundUpTo most (take f.n f.rows)
+  read_up_to_sound s room f e = clean_sound most f.n f.rows (subst (Cleaned most) e (read_clean s room))
 
-pub read_sound : (plain : Bool) (s : List ℕ) (room n : ℕ) → (read_of plain s room).answer ≡ Read n → Sound (take n (read_of plain s room).rows)
+pub read_sound : (plain : Bool) (s : List ℕ) (room : ℕ) (f : Gathered) → read_of plain s room ≡ Ok f → Sound (take f.n f.rows)
 read_sound plain = read_up_to_sound plain most_entries longest_text

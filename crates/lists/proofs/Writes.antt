@@ -1,19 +1,14 @@
--- The text of a list, put piece by piece; and the answers of `write_list`.
-use Prim.Native.Nat.{ℕ, ◌+◌, ◌≤◌, ◌<◌}
-use mathlib.Core.Path.{◌≡◌, subst, ◌∙◌}
+-- The text of a list, put piece by piece.
+use Prim.Native.Nat.{ℕ, ◌+◌, ◌≤◌}
+use mathlib.Core.Path.{◌≡◌, subst}
 use mathlib.Core.List.{List, ◌++◌}
 use native.Mathlib.Omega.{arith}
-use borrow.Author.Tests.{le-leb, lt-leb}
 use lib.ListN.{length, length-append}
-use Rattle.clashes.specs.Matrix.{Judged}
-use Rattle.clashes.specs.declared.Verdict.TheVariants.{Valid}
 use Rattle.lines.specs.Numeral.{numeral, two_line, Put}
 use Rattle.lines.proofs.Writing.{two_length, put_length, put_then}
 use Rattle.lists.specs.Shape.{p_word}
 use Rattle.lists.specs.Edges.{edges}
 use Rattle.lists.specs.Write.{edges_text, text_of}
-use Rattle.lists.specs.Promise.{WritePromise}
-use Rattle.lists.specs.declared.Written.TheVariants.{Length, Full}
 
 pub text_length : (rows : List ℕ) → length (text_of rows) ≡ length (numeral (length rows)) + length (numeral (length (edges rows))) + 9 + length (edges_text (edges rows))
 text_length rows =
@@ -37,13 +32,3 @@ module _ (rows o : List ℕ) (m : ℕ) (e : m ≡ length (edges rows)) (h : leng
     list_put o₂ a₂ q =
         subst (λ (x : ℕ). Put o 0 (two_line p_word (length rows) x ++ edges_text (edges rows)) o₂ a₂) e
         (put_then o 0 (two_line p_word (length rows) m) o₁ a₁ (edges_text (edges rows)) o₂ a₂ (omega (arith, text_split)) p q)
-
-module _ (rows old : List ℕ) (j : Judged rows Valid) where
-  pub wrote_full : length old < length (text_of rows) → WritePromise rows old Full old
-  wrote_full h = let t = lt-leb (length (text_of rows)) (length old) h in record { verdict = Valid; judged = j; answer = rw t; lent = rw t }
-
-  pub wrote_all : (new : List ℕ) (k : ℕ) → length (text_of rows) ≤ length old → Put old 0 (text_of rows) new k → WritePromise rows old (Length k) new
-  wrote_all new k h p =
-      let t = le-leb (length (text_of rows)) (length old) h in
-      let z : k ≡ length (text_of rows) = omega (arith, p.0) in
-      record { verdict = Valid; judged = j; answer = rw (t, z); lent = p.1 ∙ rw t }

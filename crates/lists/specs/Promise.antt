@@ -12,21 +12,20 @@
 --
 -- Both promises are stated for any limits (`ReadPromiseUpTo plain most longest`, `WritePromiseUpTo most`) and then named for today's.
 -- Assumes nothing.
-use Rattle.std.specs.Prelude.{ℕ, ◌≡◌, List, Bool, length}
+use Rattle.std.specs.Prelude.{ℕ, ◌≡◌, List, Bool, Result, Ok, Err, length}
 use Rattle.refusals.specs.Table.{Told, told, told_at, accepted}
 use Rattle.refusals.specs.Table as table
 use Rattle.refusals.specs.declared.Refusal.{Refusal}
 use Rattle.refusals.specs.declared.Refusal.TheVariants as refusal
-use Rattle.lists.specs.Read.{most_entries, longest_text, read_up_to, written_of}
+use Rattle.lists.specs.Read.{most_entries, longest_text, read_up_to, answer_in, written_of}
 use Rattle.lists.specs.Write.{text_of, answer_of, left_of}
-use Rattle.clashes.specs.Matrix.{JudgedUpTo}
-use Rattle.clashes.specs.declared.Verdict.{Verdict}
+use Rattle.clashes.specs.Matrix.{numbers, JudgedUpTo}
+use Rattle.refusals.specs.declared.Invalid.{Invalid}
 use Rattle.lists.specs.declared.Fault.{Fault}
 use Rattle.lists.specs.declared.Fault.TheVariants.{Line, Headless, Second, Size, Room, Vertex, Loop, Count, Long, Repeat, Digit, Space, Unended}
-use Rattle.lists.specs.declared.Reading.{Reading}
-use Rattle.lists.specs.declared.Reading.TheVariants.{Read, Refused}
-use Rattle.lists.specs.declared.Written.{Written}
-use Rattle.lists.specs.declared.Written.TheVariants.{Length, Many, Stray, Itself, OneSided, Full}
+use Rattle.lists.specs.declared.Unread.{Unread}
+use Rattle.lists.specs.declared.Unwritten.{Unwritten}
+use Rattle.lists.specs.declared.Unwritten.TheVariants.{OfRows, Full}
 
 -- 10 to 18, and 20 to 23, by their names in the table
 abbrev pub refusal_of_lem : Fault → Refusal
@@ -53,31 +52,28 @@ pub record Numbers : Type 0 where
   pub column : ℕ
   pub size : ℕ
 
-abbrev pub read_numbers : Reading → Numbers
-read_numbers (Read n) = record { number = accepted; place = 0; column = 0; size = n }
-read_numbers (Refused f k c) = let t = told_at (refusal_of_lem f) k c in record { number = t.number; place = t.line; column = t.column; size = 0 }
+abbrev pub read_numbers : Result ℕ Unread → Numbers
+read_numbers (Ok n) = record { number = accepted; place = 0; column = 0; size = n }
+read_numbers (Err u) = let t = told_at (refusal_of_lem u.why) u.line u.column in record { number = t.number; place = t.line; column = t.column; size = 0 }
 
 -- a refusal of the rows, or 19, which names none
 abbrev pub at_row : Told → Numbers
 at_row t = record { number = t.number; place = t.row; column = 0; size = 0 }
 
-abbrev pub write_numbers : Written → Numbers
-write_numbers (Length n) = record { number = accepted; place = 0; column = 0; size = n }
-write_numbers Many = at_row (told refusal.Many 0)
-write_numbers (Stray i) = at_row (told refusal.Stray i)
-write_numbers (Itself i) = at_row (told refusal.Itself i)
-write_numbers (OneSided i) = at_row (told refusal.OneSided i)
-write_numbers Full = at_row (told refusal.Full 0)
+abbrev pub write_numbers : Result ℕ Unwritten → Numbers
+write_numbers (Ok n) = record { number = accepted; place = 0; column = 0; size = n }
+write_numbers (Err (OfRows i)) = at_row (numbers (Err i))
+write_numbers (Err Full) = at_row (told refusal.Full 0)
 
-pub record ReadPromiseUpTo (plain : Bool) (most longest : ℕ) (s old : List ℕ) (a : Reading) (new : List ℕ) : Type 0 where
+pub record ReadPromiseUpTo (plain : Bool) (most longest : ℕ) (s old : List ℕ) (a : Result ℕ Unread) (new : List ℕ) : Type 0 where
   -- accepted with n, or refused with the first refusal that the text has, its line, and its column
-  pub answer : a ≡ (read_up_to plain most longest s (length old)).answer
+  pub answer : a ≡ answer_in (read_up_to plain most longest s (length old))
   -- accepted: the first n rows are the list's, the others as they were; refused: nothing is written
   pub lent : new ≡ written_of (read_up_to plain most longest s (length old)) old
 
-pub record WritePromiseUpTo (most : ℕ) (rows old : List ℕ) (a : Written) (new : List ℕ) : Type 0 where
+pub record WritePromiseUpTo (most : ℕ) (rows old : List ℕ) (a : Result ℕ Unwritten) (new : List ℕ) : Type 0 where
   -- 1 to 4: what is wrong with the rows, if anything
-  pub verdict : Verdict
+  pub verdict : Result Unit Invalid
   pub judged : JudgedUpTo most rows verdict
   -- the text's length, or the first refusal
   pub answer : a ≡ answer_of verdict (text_of rows) (length old)
@@ -86,8 +82,8 @@ pub record WritePromiseUpTo (most : ℕ) (rows old : List ℕ) (a : Written) (ne
 
 -- ---- today's limits
 
-abbrev pub ReadPromise : Bool → List ℕ → List ℕ → Reading → List ℕ → Type 0
+abbrev pub ReadPromise : Bool → List ℕ → List ℕ → Result ℕ Unread → List ℕ → Type 0
 ReadPromise plain s old a new = ReadPromiseUpTo plain most_entries longest_text s old a new
 
-abbrev pub WritePromise : List ℕ → List ℕ → Written → List ℕ → Type 0
+abbrev pub WritePromise : List ℕ → List ℕ → Result ℕ Unwritten → List ℕ → Type 0
 WritePromise rows old a new = WritePromiseUpTo most_entries rows old a new

@@ -6,14 +6,13 @@
 --   left_of v x old     : what the lent bytes hold afterwards
 --
 -- Assumes nothing.
-use Rattle.std.specs.Prelude.{ℕ, ◌+◌, List, [], ◌∷◌, ◌++◌, cond, leb, length}
+use Rattle.std.specs.Prelude.{ℕ, ◌+◌, List, [], ◌∷◌, ◌++◌, Result, Ok, Err, cond, leb, length}
 use Rattle.lines.specs.Numeral.{two_line, over}
-use Rattle.clashes.specs.declared.Verdict.{Verdict}
-use Rattle.clashes.specs.declared.Verdict.TheVariants as judged
+use Rattle.refusals.specs.declared.Invalid.{Invalid}
 use Rattle.lists.specs.Shape.{p_word, e_word}
 use Rattle.lists.specs.Edges.{edges}
-use Rattle.lists.specs.declared.Written.{Written}
-use Rattle.lists.specs.declared.Written.TheVariants.{Length, Many, Stray, Itself, OneSided, Full}
+use Rattle.lists.specs.declared.Unwritten.{Unwritten}
+use Rattle.lists.specs.declared.Unwritten.TheVariants.{OfRows, Full}
 
 abbrev pub edges_text : List (ℕ × ℕ) → List ℕ
 edges_text [] = []
@@ -23,17 +22,11 @@ abbrev pub text_of : List ℕ → List ℕ
 text_of rows = two_line p_word (length rows) (length (edges rows)) ++ edges_text (edges rows)
 
 -- 1 to 4, then 19
-abbrev pub answer_of : Verdict → List ℕ → ℕ → Written
-answer_of judged.Valid x room = cond (leb (length x) room) (Length (length x)) Full
-answer_of judged.Many x room = Many
-answer_of (judged.Stray i) x room = Stray i
-answer_of (judged.Itself i) x room = Itself i
-answer_of (judged.OneSided i) x room = OneSided i
+abbrev pub answer_of : Result Unit Invalid → List ℕ → ℕ → Result ℕ Unwritten
+answer_of (Ok _) x room = cond (leb (length x) room) (Ok (length x)) (Err Full)
+answer_of (Err i) x room = Err (OfRows i)
 
 -- the text from the first byte on and the others as they were; refused: nothing is written
-abbrev pub left_of : Verdict → List ℕ → List ℕ → List ℕ
-left_of judged.Valid x old = cond (leb (length x) (length old)) (over old 0 x) old
-left_of judged.Many x old = old
-left_of (judged.Stray i) x old = old
-left_of (judged.Itself i) x old = old
-left_of (judged.OneSided i) x old = old
+abbrev pub left_of : Result Unit Invalid → List ℕ → List ℕ → List ℕ
+left_of (Ok _) x old = cond (leb (length x) (length old)) (over old 0 x) old
+left_of (Err i) x old = old

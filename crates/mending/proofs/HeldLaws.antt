@@ -2,14 +2,12 @@
 use Prim.Native.Nat.{ℕ, suc, ◌+◌, ◌-◌, ◌≤◌, ◌<◌}
 use mathlib.Core.Path.{◌≡◌, refl, sym, ap, subst, fun_ext, ◌∙◌}
 use mathlib.Core.Logic.{◌≢◌}
-use mathlib.Core.List.{List, [], ◌∷◌, ◌++◌, map, map-append, append-nil}
+use mathlib.Core.List.{List, [], ◌∷◌, ◌++◌, append-nil}
 use mathlib.Core.Bool.{Bool, true, false, cond, not, ◌&&◌, ◌||◌}
-use native.Mathlib.Numerals.{add-one}
 use native.Mathlib.Omega.{arith}
-use borrow.Author.Tests.{ne_eqb}
+use borrow.Author.Tests.{eqb-true, ne_eqb, eq-eqb}
 use lib.Dec.{T, eqb}
-use lib.ListN.{length, take, set, get_or, length-set, length-append}
-use lib.Seq.{take-suc-set}
+use lib.ListN.{length, get_or, length-append}
 use Rattle.sets.specs.Lists.{bit, put, any}
 use Rattle.sets.specs.Set.{has, size, IsWith, IsMeet}
 use Rattle.sets.proofs.TestLaws.{and_r, or_r, or_false, bit_few, bit_one, bit_zero, eqb_of, T→true, T→false, any_make, any_get}
@@ -23,8 +21,11 @@ use Rattle.sheets.proofs.Sets.{empty_is, empty_within, with_within}
 use Rattle.mends.specs.Mend.{Going, taken, clashes, lifting, keeping, member_of_lem, closed}
 use Rattle.mends.specs.Report.{dropped_word, dropped_text}
 use Rattle.mends.proofs.Sorted.{taken_is}
-use Rattle.mending.specs.Held.{RowsAt, going_of, full, FitsAt, dropped_more}
+use Rattle.mending.specs.Rows.{RowsAt}
+use Rattle.mending.specs.Groups.{sets_of}
+use Rattle.mending.specs.Held.{going_of, full, FitsAt, MemberedAt, dropped_more}
 use Rattle.mending.specs.declared.Gone.{Gone}
+use Rattle.mending.specs.declared.groups.Groups.{Groups}
 
 -- ---- sets
 
@@ -58,19 +59,34 @@ module _ (cap n : ℕ) (rows : List ℕ) (k : RowsAt cap n rows) (s e r : ℕ) (
   pub clash_none : r ≡ 0 → clashes n (matrix rows) (has s) e ≡ false
   clash_none z = T→false _ (λ a. let (j, _, h) = any_get n (λ j. has s j && matrix rows e j) a in subst T (sym (m j) ∙ ap (λ (x : ℕ). has x j) z ∙ has_none j) h)
 
+  -- so it is seen by the row whether a group admits an entry
+  pub admits_is : eqb r 0 ≡ not (clashes n (matrix rows) (has s) e)
+  admits_is = go (eqb r 0) refl
+    where
+      go : (b : Bool) → eqb r 0 ≡ b → b ≡ not (clashes n (matrix rows) (has s) e)
+      go true z = ap not (sym (clash_none (eqb-true r 0 z)))
+      go false z = ap not (sym (clash_some (λ d. let q : ◌≡◌ {A = Bool} true false = sym (eq-eqb r 0 d) ∙ z in absurd (subst T q tt))))
+
+pub not_false : (b : Bool) → not b ≡ false → b ≡ true
+not_false true e = refl
+not_false false e = absurd (subst T e tt)
+
+pub not_true : (b : Bool) → not b ≡ true → b ≡ false
+not_true true e = absurd (subst T (sym e) tt)
+not_true false e = refl
+
 -- ---- one member
 
 module _ (cap n : ℕ) (few : n ≤ cap) (g : Gone) (f : FitsAt cap n g) (e : ℕ) (h : e < n) (new : ¬ T (has g.seen e)) (s' : ℕ) (S : IsWith g.seen e s') where
   module _ (l' : ℕ) (L : IsWith g.lifted e l') where
     abbrev pub lifts : Gone
-    lifts = record { seen = s'; lifted = l'; mates = g.mates; sets = g.sets; many = g.many; bytes = g.bytes }
+    lifts = record { seen = s'; lifted = l'; mates = g.mates; groups = g.groups; bytes = g.bytes }
 
     pub lifts_is : going_of lifts ≡ lifting (going_of g) e
-    lifts_is = λ i. record { seen = fun_ext S i; lifted = fun_ext L i; mates = has g.mates; groups = map has (take g.many g.sets) }
+    lifts_is = λ i. record { seen = fun_ext S i; lifted = fun_ext L i; mates = has g.mates; groups = sets_of g.groups }
 
     pub lifts_fits : FitsAt cap n lifts
     lifts_fits = record {
-      long = f.long;
       room = omega (arith, f.room, size_with cap g.seen e s' (omega arith) S new, size_with_most cap g.lifted e l' (omega arith) L);
       mates = f.mates;
       lifted = with_within n g.lifted e l' h L f.lifted;
@@ -78,14 +94,13 @@ module _ (cap n : ℕ) (few : n ≤ cap) (g : Gone) (f : FitsAt cap n g) (e : �
 
   module _ (m' : ℕ) (M : IsWith g.mates e m') where
     abbrev pub keeps : Gone
-    keeps = record { seen = s'; lifted = g.lifted; mates = m'; sets = g.sets; many = g.many; bytes = g.bytes }
+    keeps = record { seen = s'; lifted = g.lifted; mates = m'; groups = g.groups; bytes = g.bytes }
 
     pub keeps_is : going_of keeps ≡ keeping (going_of g) e
-    keeps_is = λ i. record { seen = fun_ext S i; lifted = has g.lifted; mates = fun_ext M i; groups = map has (take g.many g.sets) }
+    keeps_is = λ i. record { seen = fun_ext S i; lifted = has g.lifted; mates = fun_ext M i; groups = sets_of g.groups }
 
     pub keeps_fits : FitsAt cap n keeps
     keeps_fits = record {
-      long = f.long;
       room = omega (arith, f.room, size_with cap g.seen e s' (omega arith) S new, bit_few (not (eqb m' 0)));
       mates = with_within n g.mates e m' h M f.mates;
       lifted = f.lifted;
@@ -124,38 +139,33 @@ drops_most n seen line u = go (taken n seen u) refl
 
 -- ---- what became of a member
 
--- the member u is gone through, and r is known then
-abbrev pub Membered : ℕ → ℕ → List ℕ → Gone → ℕ → ℕ → Gone → Type 0
-Membered cap n rows g line u r =
-    (going_of r ≡ member_of_lem n (matrix rows) (going_of g) u) × FitsAt cap n r × (r.bytes ≡ g.bytes + length (dropped_text (dropped_more n (has g.seen) line u)))
-
 module _ (cap n : ℕ) (rows : List ℕ) (k : RowsAt cap n rows) (g : Gone) (f : FitsAt cap n g) (line u : ℕ) where
-  module _ (t : taken n (has g.seen) u ≡ true) (s' : ℕ) (S : IsWith g.seen (u - 1) s') (r' : ℕ) (M : IsMeet g.mates (get_or rows (u - 1) 0) r') where
-    pub membered_lifts : r' ≢ 0 → (l' : ℕ) (L : IsWith g.lifted (u - 1) l')
-        → Membered cap n rows g line u (record { seen = s'; lifted = l'; mates = g.mates; sets = g.sets; many = g.many; bytes = g.bytes })
+  module _ (t : taken n (has g.seen) u ≡ true) (s' : ℕ) (S : IsWith g.seen (u - 1) s') where
+    pub membered_lifts : clashes n (matrix rows) (has g.mates) (u - 1) ≡ true → (l' : ℕ) (L : IsWith g.lifted (u - 1) l')
+        → MemberedAt cap n rows g line u (record { seen = s'; lifted = l'; mates = g.mates; groups = g.groups; bytes = g.bytes })
     membered_lifts d l' L =
         let i = taken_is n (has g.seen) u t in (
           lifts_is cap n k.few g f (u - 1) i.1 i.2 s' S l' L
-              ∙ sym (member_lifts n (matrix rows) (going_of g) u t (clash_some cap n rows k g.mates (u - 1) r' M d)),
+              ∙ sym (member_lifts n (matrix rows) (going_of g) u t d),
           lifts_fits cap n k.few g f (u - 1) i.1 i.2 s' S l' L,
           omega (arith, drops_none n (has g.seen) line u t),
         )
 
-    pub membered_keeps : r' ≡ 0 → (m' : ℕ) (N : IsWith g.mates (u - 1) m')
-        → Membered cap n rows g line u (record { seen = s'; lifted = g.lifted; mates = m'; sets = g.sets; many = g.many; bytes = g.bytes })
+    pub membered_keeps : clashes n (matrix rows) (has g.mates) (u - 1) ≡ false → (m' : ℕ) (N : IsWith g.mates (u - 1) m')
+        → MemberedAt cap n rows g line u (record { seen = s'; lifted = g.lifted; mates = m'; groups = g.groups; bytes = g.bytes })
     membered_keeps z m' N =
         let i = taken_is n (has g.seen) u t in (
           keeps_is cap n k.few g f (u - 1) i.1 i.2 s' S m' N
-              ∙ sym (member_keeps n (matrix rows) (going_of g) u t (clash_none cap n rows k g.mates (u - 1) r' M z)),
+              ∙ sym (member_keeps n (matrix rows) (going_of g) u t z),
           keeps_fits cap n k.few g f (u - 1) i.1 i.2 s' S m' N,
           omega (arith, drops_none n (has g.seen) line u t),
         )
 
   pub membered_drops : taken n (has g.seen) u ≡ false → (b : ℕ) → b ≡ g.bytes + length (numeral line) + 9
-      → Membered cap n rows g line u (record { seen = g.seen; lifted = g.lifted; mates = g.mates; sets = g.sets; many = g.many; bytes = b })
+      → MemberedAt cap n rows g line u (record { seen = g.seen; lifted = g.lifted; mates = g.mates; groups = g.groups; bytes = b })
   membered_drops t b e = (
     sym (member_drops n (matrix rows) (going_of g) u t),
-    record { long = f.long; room = f.room; mates = f.mates; lifted = f.lifted },
+    record { room = f.room; mates = f.mates; lifted = f.lifted },
     omega (arith, drops_length n (has g.seen) line u t),
   )
 
@@ -172,8 +182,7 @@ module _ (cap n : ℕ) (g : Gone) (f : FitsAt cap n g) where
         seen = has g.seen;
         lifted = has g.lifted;
         mates = (ap has z ∙ empty_is) i;
-        groups = (sym (append-nil (map has (take g.many g.sets)))
-            ∙ ap (λ (b : Bool). map has (take g.many g.sets) ++ put b (has g.mates) []) (sym (none_any n g.mates z))) i;
+        groups = (sym (append-nil (sets_of g.groups)) ∙ ap (λ (b : Bool). sets_of g.groups ++ put b (has g.mates) []) (sym (none_any n g.mates z))) i;
       }
 
   module _ (d : g.mates ≢ 0) where
@@ -183,28 +192,21 @@ module _ (cap n : ℕ) (g : Gone) (f : FitsAt cap n g) where
     one_full : full g.mates ≡ 1
     one_full = ap (λ (b : Bool). bit (not b)) (ne_eqb g.mates 0 d)
 
-    pub stays_room : g.many < cap
+    pub stays_room : g.groups.many < cap
     stays_room = omega (arith, f.room, one_full, count_few (has g.seen) cap)
 
-    abbrev pub stays : Gone
-    stays = record { seen = g.seen; lifted = g.lifted; mates = 0; sets = set g.sets g.many g.mates; many = g.many + 1; bytes = g.bytes }
+    module _ (k : Groups) (S : sets_of k ≡ sets_of g.groups ++ has g.mates ∷ []) (M : k.many ≡ g.groups.many + 1) where
+      abbrev pub stays : Gone
+      stays = record { seen = g.seen; lifted = g.lifted; mates = 0; groups = k; bytes = g.bytes }
 
-    pub stays_is : going_of stays ≡ closed n (going_of g)
-    stays_is =
-        λ i. record {
-          seen = has g.seen;
-          lifted = has g.lifted;
-          mates = empty_is i;
-          groups = (ap (λ (k : ℕ). map has (take k (set g.sets g.many g.mates))) (add-one g.many)
-              ∙ ap (map has) (take-suc-set g.sets g.many g.mates (omega (arith, f.long, stays_room)))
-              ∙ map-append has (take g.many g.sets) (g.mates ∷ [])
-              ∙ ap (λ (b : Bool). map has (take g.many g.sets) ++ put b (has g.mates) []) (sym some_any)) i;
-        }
+      pub stays_is : going_of stays ≡ closed n (going_of g)
+      stays_is =
+          λ i. record {
+            seen = has g.seen;
+            lifted = has g.lifted;
+            mates = empty_is i;
+            groups = (S ∙ ap (λ (b : Bool). sets_of g.groups ++ put b (has g.mates) []) (sym some_any)) i;
+          }
 
-    pub stays_fits : FitsAt cap n stays
-    stays_fits = record {
-      long = length-set g.sets g.many g.mates ∙ f.long;
-      room = omega (arith, f.room, one_full);
-      mates = empty_within n;
-      lifted = f.lifted;
-    }
+      pub stays_fits : FitsAt cap n stays
+      stays_fits = record { room = omega (arith, f.room, one_full, M); mates = empty_within n; lifted = f.lifted }

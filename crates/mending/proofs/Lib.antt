@@ -1,4 +1,3 @@
-pub mod Steps
 pub mod HeldLaws
 pub mod Turns
 pub mod Placing

@@ -1,18 +1,20 @@
 -- Entries put again: which they are, the first group that admits one, and what the groups are then.
 use Prim.Native.Nat.{ℕ, zero, suc, ◌+◌, ◌-◌, ◌^◌, ◌≤◌, ◌<◌, suc-le-suc, zero-le}
-use mathlib.Core.Path.{◌≡◌, sym, ap, subst, fun_ext, ◌∙◌}
+use mathlib.Core.Path.{◌≡◌, refl, sym, ap, subst, fun_ext, ◌∙◌}
 use mathlib.Core.Logic.{⊎_elim}
-use mathlib.Core.List.{List, [], ◌∷◌, ◌++◌, map}
+use mathlib.Core.List.{List, [], ◌∷◌, ◌++◌, map, map-append}
 use mathlib.Core.Bool.{Bool, true, false, cond, not, ◌&&◌, ◌||◌}
 use native.Mathlib.Nat.{le_of_suc-le-suc, not-suc-le-zero}
-use native.Mathlib.Numerals.{add-one}
-use native.Mathlib.Decide.{dec_lt}
 use native.Mathlib.Omega.{arith}
-use borrow.Author.Tests.{lt-ltb}
+use borrow.Author.Tests.{lt-ltb, ltb-false}
 use lib.Bits.{bit_and}
-use lib.Dec.{T, eqb, ltb→lt}
+use lib.Dec.{T, eqb, ltb, ltb→lt}
 use lib.ListN.{length, take, set, get_or}
-use lib.Seq.{take-suc-set, take-set-lt, length-take-le, get_or-take}
+use lib.Seq.{take-set-lt, length-take-le, get_or-take}
+use Rattle.std.specs.Prelude.{Option, None, Some}
+use Rattle.std.specs.List.{position, position_or_len}
+use Rattle.std.proofs.lemmas.List.Quantifiers.{position-Some}
+use Rattle.std.proofs.lemmas.List.Sums.{fails_before_first}
 use Rattle.sets.specs.Lists.{bit, count, upto, members}
 use Rattle.sets.specs.Set.{has, size, IsWith, IsWithout, IsJoin, IsLess, IsBelow, IsLowest}
 use Rattle.sets.proofs.TestLaws.{and_l, and_r, or_cases, t_not}
@@ -21,9 +23,9 @@ use Rattle.sets.proofs.SetLaws.{has_none, without_is, size_without, members_cons
 use Rattle.sheets.specs.Sound.{Within}
 use Rattle.mends.specs.Mend.{with, clashes, admit}
 use Rattle.mending.specs.Held.{FitsAt}
-use Rattle.mending.specs.Places.{sets_of, AgainOf, FirstOf}
+use Rattle.mending.specs.Places.{AgainOf}
 use Rattle.mending.specs.declared.Gone.{Gone}
-use Rattle.mending.specs.declared.Groups.{Groups}
+use Rattle.mending.proofs.HeldLaws.{not_false, not_true}
 
 -- ---- which they are
 
@@ -75,12 +77,13 @@ module _ (n : ℕ) (few : n ≤ 64) (g : Gone) (f : FitsAt 64 n g) (b a r : ℕ)
 
 -- ---- the first group that admits an entry
 
-pub first_more : (p : ℕ → Bool) (j : ℕ) → ((i : ℕ) → i < j → p i ≡ true) → p j ≡ true → (i : ℕ) → i < j + 1 → p i ≡ true
-first_more p j h e i l = go (dec_lt i j)
+-- where none passes, each fails
+none_before : (p : ℕ → Bool) (l : List ℕ) → position p l ≡ None → (i : ℕ) → i < length l → p (get_or l i 0) ≡ false
+none_before p l q i h = go (ltb (position_or_len p l) (length l)) refl q
   where
-    go : Dec (i < j) → p i ≡ true
-    go (yes b) = h i b
-    go (no b) = let z : i ≡ j = omega arith in ap p z ∙ e
+    go : (b : Bool) → ltb (position_or_len p l) (length l) ≡ b → ◌≡◌ {A = Option ℕ} (cond b (Some (position_or_len p l)) None) None → p (get_or l i 0) ≡ false
+    go true e q = let z : ◌≡◌ {A = ℕ} 0 1 = cc in absurd (omega arith)
+    go false e q = fails_before_first p l i 0 (omega (arith, ltb-false (position_or_len p l) (length l) e))
 
 module _ (n : ℕ) (clash : ℕ → ℕ → Bool) (e : ℕ) where
   -- it is put into that one
@@ -102,30 +105,18 @@ module _ (n : ℕ) (clash : ℕ → ℕ → Bool) (e : ℕ) where
       ap (λ (y : Bool). cond y (has s ∷ admit n clash (map has l) e) (with (has s) e ∷ map has l)) (b 0 (suc-le-suc zero-le))
       ∙ ap (λ (y : List (ℕ → Bool)). has s ∷ y) (admit_new l (λ i k. b (suc i) (suc-le-suc k)) x U)
 
-  module _ (g : Groups) (few : g.many < 64) (long : length g.sets ≡ 64) (j : ℕ) (F : FirstOf (λ j. clashes n clash (has (get_or g.sets j 0)) e) g.many j) where
-    front : (i : ℕ) → i < g.many → clashes n clash (has (get_or (take g.many g.sets) i 0)) e ≡ clashes n clash (has (get_or g.sets i 0)) e
-    front i h = ap (λ (s : ℕ). clashes n clash (has s) e) (get_or-take g.many g.sets i 0 h)
+  -- of the first `many` sets of an array
+  pub admitted_at : (many : ℕ) (l : List ℕ) → many ≤ length l → (j : ℕ) → position (λ s. not (clashes n clash (has s) e)) (take many l) ≡ Some j
+      → (x : ℕ) → IsWith (get_or l j 0) e x → map has (take many (set l j x)) ≡ admit n clash (map has (take many l)) e
+  admitted_at many l few j q x U =
+      let p = position-Some (λ s. not (clashes n clash (has s) e)) (take many l) j 0 q in
+      let h : j < many = omega (arith, p.0, length-take-le many l few) in
+      ap (map has) (take-set-lt many l j x h)
+      ∙ sym (admit_at (take many l) j p.0 (λ i k. not_false _ (p.2 i k)) (not_true _ p.1) x (subst (λ (s : ℕ). IsWith s e x) (sym (get_or-take many l j 0 h)) U))
 
-    pub admitted_new : j ≡ g.many → (x : ℕ) → IsWith 0 e x
-        → map has (take (g.many + 1) (set g.sets j x)) ≡ admit n clash (sets_of g) e
-    admitted_new z x U =
-        ap (λ (i : ℕ). map has (take (g.many + 1) (set g.sets i x))) z
-        ∙ ap (λ (i : ℕ). map has (take i (set g.sets g.many x))) (add-one g.many)
-        ∙ ap (map has) (take-suc-set g.sets g.many x (omega arith))
-        ∙ sym (admit_new (take g.many g.sets) (λ i h. let k : i < g.many = omega (arith, length-take-le g.many g.sets (omega arith)) in
-        front i k ∙ F.before i (omega arith)) x U)
-
-    pub admitted_at : (j ≡ g.many → ⊥) → (x : ℕ) → IsWith (get_or g.sets j 0) e x
-        → map has (take g.many (set g.sets j x)) ≡ admit n clash (sets_of g) e
-    admitted_at d x U =
-        let h : j < g.many = omega (arith, F.most) in
-        ap (map has) (take-set-lt g.many g.sets j x h)
-        ∙ sym (admit_at (take g.many g.sets) j (omega (arith, length-take-le g.many g.sets (omega arith)))
-        (λ i k. front i (omega arith) ∙ F.before i k) (front j h ∙ F.here h) x
-        (subst (λ (s : ℕ). IsWith s e x) (sym (get_or-take g.many g.sets j 0 h)) U))
-
-    pub first_few : (j ≡ g.many → ⊥) → j < 64
-    first_few d = omega (arith, F.most)
+  pub admitted_new : (l : List ℕ) → position (λ s. not (clashes n clash (has s) e)) l ≡ None → (x : ℕ) → IsWith 0 e x
+      → admit n clash (map has l) e ≡ map has l ++ has x ∷ []
+  admitted_new l q x U = admit_new l (λ i h. not_false _ (none_before (λ s. not (clashes n clash (has s) e)) l q i h)) x U ∙ map-append has l (x ∷ [])
 
 -- ---- one after the other
 

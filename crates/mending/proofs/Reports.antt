@@ -6,6 +6,7 @@ use mathlib.Core.Bool.{Bool, true, false, cond, not}
 use native.Mathlib.Omega.{arith}
 use lib.Bits.{bit_and}
 use lib.ListN.{length, take, drop, length-append}
+use Rattle.std.specs.Prelude.{Option, Some, Ok}
 use Rattle.sets.specs.Lists.{put, members}
 use Rattle.sets.specs.Set.{has, IsWith, IsWithout, IsLowest}
 use Rattle.sets.proofs.SetLaws.{without_is}
@@ -76,34 +77,34 @@ module _ (n : ℕ) (seen u : ℕ) where
   sees_same t = ap (λ (b : Bool). cond b (with (has seen) (u - 1)) (has seen)) (sym t)
 
 -- one turn of the loop that puts them
-module _ (n : ℕ) (s : List ℕ) (a e k : ℕ) (c : Counts) (seen : ℕ) (q : e ≡ line_end_lem s a) (l : e < length s) (o₀ w o : List ℕ) (p : ℕ)
+module _ (n : ℕ) (s : List ℕ) (a e k : ℕ) (c : Option Counts) (seen : ℕ) (q : e ≡ line_end_lem s a) (l : e < length s) (o₀ w o : List ℕ) (p : ℕ)
     (L : Left o₀ 0 w o p (dropped_text (dropped_at n (lines_of (drop a s)) k c (has seen)))) where
-  pub drops_groups : (d : Counts) → step_of c (take (e - a) (drop a s)) ≡ Groups d → (o' : List ℕ) (p' : ℕ) (c' : Counts) (seen' : ℕ) → o' ≡ o → p' ≡ p → c' ≡ d → seen' ≡ seen
+  pub drops_groups : (d : Counts) → step_of c (take (e - a) (drop a s)) ≡ Ok (Groups d) → (o' : List ℕ) (p' : ℕ) (c' : Option Counts) (seen' : ℕ) → o' ≡ o → p' ≡ p → c' ≡ Some d → seen' ≡ seen
       → Left o₀ 0 w o' p' (dropped_text (dropped_at n (lines_of (drop (e + 1) s)) (k + 1) c' (has seen')))
   drops_groups d x o' p' c' seen' eo ep ec es =
-      rw (eo, ep, ec, es) (left_skip o₀ 0 w o p _ L _ (ap dropped_text (turn_drops s a k c e q l (Groups d) x n (has seen))))
+      rw (eo, ep, ec, es) (left_skip o₀ 0 w o p _ L _ (ap dropped_text (turn_drops s a k c e q l (Ok (Groups d)) x n (has seen))))
 
-  pub drops_size : (d : Counts) → step_of c (take (e - a) (drop a s)) ≡ Size d → (o' : List ℕ) (p' : ℕ) (c' : Counts) (seen' : ℕ) → o' ≡ o → p' ≡ p → c' ≡ d → seen' ≡ seen
+  pub drops_size : (d : Counts) → step_of c (take (e - a) (drop a s)) ≡ Ok (Size d) → (o' : List ℕ) (p' : ℕ) (c' : Option Counts) (seen' : ℕ) → o' ≡ o → p' ≡ p → c' ≡ Some d → seen' ≡ seen
       → Left o₀ 0 w o' p' (dropped_text (dropped_at n (lines_of (drop (e + 1) s)) (k + 1) c' (has seen')))
   drops_size d x o' p' c' seen' eo ep ec es =
-      rw (eo, ep, ec, es) (left_skip o₀ 0 w o p _ L _ (ap dropped_text (turn_drops s a k c e q l (Size d) x n (has seen))))
+      rw (eo, ep, ec, es) (left_skip o₀ 0 w o p _ L _ (ap dropped_text (turn_drops s a k c e q l (Ok (Size d)) x n (has seen))))
 
-  module _ (d : Counts) (u : ℕ) (x : step_of c (take (e - a) (drop a s)) ≡ Member d u) where
+  module _ (d : Counts) (u : ℕ) (x : step_of c (take (e - a) (drop a s)) ≡ Ok (Member d u)) where
     next : dropped_text (dropped_at n (lines_of (drop a s)) k c (has seen))
-        ≡ dropped_text (dropped_more n (has seen) k u) ++ dropped_text (dropped_at n (lines_of (drop (e + 1) s)) (k + 1) d (sees n (has seen) u))
+        ≡ dropped_text (dropped_more n (has seen) k u) ++ dropped_text (dropped_at n (lines_of (drop (e + 1) s)) (k + 1) (Some d) (sees n (has seen) u))
     next =
-        ap dropped_text (turn_drops s a k c e q l (Member d u) x n (has seen))
-        ∙ text_more (not (taken n (has seen) u)) k (dropped_at n (lines_of (drop (e + 1) s)) (k + 1) d (sees n (has seen) u))
+        ap dropped_text (turn_drops s a k c e q l (Ok (Member d u)) x n (has seen))
+        ∙ text_more (not (taken n (has seen) u)) k (dropped_at n (lines_of (drop (e + 1) s)) (k + 1) (Some d) (sees n (has seen) u))
 
     pub drops_room : p + length (dropped_text (dropped_more n (has seen) k u)) ≤ length o
     drops_room =
         left_room o₀ 0 w o p (dropped_text (dropped_at n (lines_of (drop a s)) k c (has seen))) L (dropped_text (dropped_more n (has seen) k u))
-        (dropped_text (dropped_at n (lines_of (drop (e + 1) s)) (k + 1) d (sees n (has seen) u))) next
+        (dropped_text (dropped_at n (lines_of (drop (e + 1) s)) (k + 1) (Some d) (sees n (has seen) u))) next
 
     pub drops_member : (o₁ : List ℕ) (p₁ : ℕ) → Put o p (dropped_text (dropped_more n (has seen) k u)) o₁ p₁ → (s₁ : ℕ) → has s₁ ≡ sees n (has seen) u
-        → (o' : List ℕ) (p' : ℕ) (c' : Counts) (seen' : ℕ) → o' ≡ o₁ → p' ≡ p₁ → c' ≡ d → seen' ≡ s₁
+        → (o' : List ℕ) (p' : ℕ) (c' : Option Counts) (seen' : ℕ) → o' ≡ o₁ → p' ≡ p₁ → c' ≡ Some d → seen' ≡ s₁
         → Left o₀ 0 w o' p' (dropped_text (dropped_at n (lines_of (drop (e + 1) s)) (k + 1) c' (has seen')))
     drops_member o₁ p₁ P s₁ S o' p' c' seen' eo ep ec es =
         rw (eo, ep, ec, es)
-        (subst (λ (y : ℕ → Bool). Left o₀ 0 w o₁ p₁ (dropped_text (dropped_at n (lines_of (drop (e + 1) s)) (k + 1) d y))) (sym S)
+        (subst (λ (y : ℕ → Bool). Left o₀ 0 w o₁ p₁ (dropped_text (dropped_at n (lines_of (drop (e + 1) s)) (k + 1) (Some d) y))) (sym S)
         (left_put o₀ 0 w o p _ L _ _ next o₁ p₁ P))

@@ -6,10 +6,10 @@
 --   Answered m old a new  : a is the answer, and new what the bytes old hold then, where mending gives m
 --
 -- Assumes nothing.
-use Rattle.std.specs.Prelude.{ℕ, ◌≤◌, ◌≡◌, List, [], Bool, length}
+use Rattle.std.specs.Prelude.{ℕ, ◌≤◌, ◌≡◌, List, [], Bool, length, Result}
 use Rattle.sets.specs.Lists.{over}
 use Rattle.lines.specs.Text.{lines_of}
-use Rattle.mends.specs.declared.Mended.{Mended}
+use Rattle.mends.specs.declared.Unmended.{Unmended}
 use Rattle.mends.specs.Typed.{is, typed_of}
 use Rattle.mends.specs.Mend.{Going, gone, again, admit}
 use Rattle.mends.specs.Report.{dropped_text}
@@ -31,6 +31,6 @@ pub record WholeAs (n : ℕ) (clash : ℕ → ℕ → Bool) (s : List ℕ) (g : 
 abbrev pub mended_of : ℕ → (ℕ → ℕ → Bool) → Going → List (ℕ → Bool)
 mended_of n clash g = over (admit n clash) g.groups (again n g)
 
-pub record Answered (m : Mending) (old : List ℕ) (a : Mended) (new : List ℕ) : Type 0 where
+pub record Answered (m : Mending) (old : List ℕ) (a : Result ℕ Unmended) (new : List ℕ) : Type 0 where
   pub answer : a ≡ answer_of m (length old)
   pub lent : new ≡ left_of m old

@@ -1,3 +1,5 @@
+pub mod Rows
+pub mod Groups
 pub mod Held
 pub mod Places
 pub mod Calls

@@ -16,6 +16,7 @@ use mathlib.Core.List.{List, [], ◌++◌}
 use Prim.Native.Nat.{ℕ, suc, ◌≤◌, ◌<◌}
 use native.Mathlib.Omega.{arith}
 use lib.Dec.{eqb}
+use Rattle.std.specs.Prelude.{Result, Ok, Err}
 use lib.ListN.{length, drop}
 use Rattle.sets.specs.Lists.{count}
 use Rattle.clashes.specs.Divisions.{at, groups}
@@ -23,11 +24,10 @@ use Rattle.clashes.specs.Matrix.{matrix}
 use Rattle.lines.specs.Text.{lines_of}
 use Rattle.lines.specs.Numeral.{over}
 use Rattle.lists.specs.Promise.{number_of as list_number_of}
-use Rattle.lists.specs.declared.Fault.{Fault}
+use Rattle.lists.specs.declared.Unread.{Unread}
 use Rattle.sheets.specs.Promise.{CheckPromise}
-use Rattle.sheets.specs.declared.SheetFault.{SheetFault}
-use Rattle.sheets.specs.declared.Checked.{Checked}
-use Rattle.sheets.specs.declared.Checked.TheVariants.{Accepted}
+use Rattle.sheets.specs.declared.Refused.{Refused}
+use Rattle.sheets.specs.declared.Unchecked.{Unchecked}
 use Rattle.sheet_texts.specs.Sheet.{sheet_text}
 use Rattle.texts.specs.Listed.{ListOf}
 use Rattle.texts.specs.ListFaults.{ListRefused}
@@ -36,8 +36,8 @@ use Rattle.texts.proofs.ListMeaning.{list_valid}
 use Rattle.mends.specs.Typed.{is, typed_of}
 use Rattle.mends.specs.Mend.{gone, mended}
 use Rattle.mends.specs.Promise.{MendPromise}
-use Rattle.mends.specs.declared.Mended.{Mended}
-use Rattle.mends.specs.declared.Mended.TheVariants.{Written, Unread, Refused, Full}
+use Rattle.mends.specs.declared.Unmended.{Unmended}
+use Rattle.mends.specs.declared.Unmended.TheVariants.{OfList, OfSheet, Full}
 use Rattle.mends.proofs.Groups.{OneGroup}
 use Rattle.mends.proofs.Seen.{flat}
 use Rattle.mends.proofs.MendedLaws.{mended_division, kept_together}
@@ -48,22 +48,22 @@ use Rattle.mends.proofs.Calls as calls
 
 module _ (plain : Bool) (list s old new : List ℕ) where
   -- Written, with k: the first k lent bytes are the report and the mended sheet, the others are as they were.
-  pub mend_written : (k : ℕ) → MendPromise plain list s old (Written k) new → calls.Wrote plain 64 65536 list s old k new
+  pub mend_written : (k : ℕ) → MendPromise plain list s old (Ok k) new → calls.Wrote plain 64 65536 list s old k new
   mend_written = calls.mend_written plain 64 65536 list s old new
 
   -- Refused: for the clash text; for the sheet, by 18 or for its lines' shape; or since the output does not fit. Nothing lent is written.
-  pub mend_unread : (f : Fault) (k c : ℕ) → MendPromise plain list s old (Unread f k c) new → ListRefused plain 64 65536 list 64 (list_number_of f) k c × (new ≡ old)
+  pub mend_unread : (u : Unread) → MendPromise plain list s old (Err (OfList u)) new → ListRefused plain 64 65536 list 64 (list_number_of u.why) u.line u.column × (new ≡ old)
   mend_unread = calls.mend_unread plain 64 65536 list s old new
 
-  pub mend_refused : (f : SheetFault) (k : ℕ) → MendPromise plain list s old (Refused f k) new → calls.SheetAtFault plain 64 65536 list s old new f k
+  pub mend_refused : (r : Refused) → MendPromise plain list s old (Err (OfSheet r)) new → calls.SheetAtFault plain 64 65536 list s old new r
   mend_refused = calls.mend_refused plain 64 65536 list s old new
 
-  pub mend_full : MendPromise plain list s old Full new → calls.TooLong plain 64 65536 list s old new
+  pub mend_full : MendPromise plain list s old (Err Full) new → calls.TooLong plain 64 65536 list s old new
   mend_full = calls.mend_full plain 64 65536 list s old new
 
   -- A sheet that passes the check comes back byte for byte, with an empty report.
-  pub passing_back : (k : ℕ) (lent left : List ℕ) → CheckPromise plain list s lent (Accepted k) left → (a : Mended) → length s ≤ length old
-      → MendPromise plain list s old a new → (a ≡ Written (length s)) × (new ≡ over old 0 s)
+  pub passing_back : (k : ℕ) (lent left : List ℕ) → CheckPromise plain list s lent (Ok k) left → (a : Result ℕ Unmended) → length s ≤ length old
+      → MendPromise plain list s old a new → (a ≡ Ok (length s)) × (new ≡ over old 0 s)
   passing_back k lent left x a h p = calls.passing_back plain 64 65536 today list s lent left k x old new a h p
 
 -- Of the list of n entries, and of the sheet that was typed as gs:
@@ -76,13 +76,13 @@ module _ (plain : Bool) (list : List ℕ) (n : ℕ) (rows : List ℕ) (l : ListO
   mended_is = mended_sheet 64 65536 today n l.few (matrix rows) (list_valid plain 64 65536 list n rows l) gs
 
   -- It passes the check against the same list.
-  pub mended_passes : (old new : List ℕ) (a : Checked) → n ≤ length old → CheckPromise plain list sheet old a new
-      → (a ≡ Accepted (groups 0 (mended n (matrix rows) gs))) × (new ≡ mended n (matrix rows) gs ++ drop n old)
+  pub mended_passes : (old new : List ℕ) (a : Result ℕ Unchecked) → n ≤ length old → CheckPromise plain list sheet old a new
+      → (a ≡ Ok (groups 0 (mended n (matrix rows) gs))) × (new ≡ mended n (matrix rows) gs ++ drop n old)
   mended_passes = calls.mended_passes plain 64 65536 today list n rows l gs
 
   -- Mending it changes nothing more.
-  pub mended_again : (old new : List ℕ) (a : Mended) → length sheet ≤ length old → MendPromise plain list sheet old a new
-      → (a ≡ Written (length sheet)) × (new ≡ over old 0 sheet)
+  pub mended_again : (old new : List ℕ) (a : Result ℕ Unmended) → length sheet ≤ length old → MendPromise plain list sheet old a new
+      → (a ≡ Ok (length sheet)) × (new ≡ over old 0 sheet)
   mended_again = calls.mended_again plain 64 65536 today list n rows l gs
 
   -- Every entry stands in it once.

@@ -67,12 +67,12 @@ sheet9 = refl
 
 -- ' groups 1\nsize 2\n3\n2\n': refused 30 line 1
 sheet5 : mend_sheet_lem 4 (matrix (0 ∷ 0 ∷ 0 ∷ 0 ∷ [])) (32 ∷ 103 ∷ 114 ∷ 111 ∷ 117 ∷ 112 ∷ 115 ∷ 32 ∷ 49 ∷ 10 ∷ 115 ∷ 105 ∷ 122 ∷ 101 ∷ 32 ∷ 50 ∷ 10 ∷ 51 ∷ 10 ∷ 50 ∷ 10 ∷ [])
-    ≡ refused Line 1
+    ≡ refused (record { why = Line; line = 1 })
 unfolding member ℕ_discrete numeral sheet_text
 sheet5 = refl
 
 -- 'groups 0\nsize 1\n': refused 37 line 2
 sheet7 : mend_sheet_lem 3 (matrix (2 ∷ 5 ∷ 2 ∷ [])) (103 ∷ 114 ∷ 111 ∷ 117 ∷ 112 ∷ 115 ∷ 32 ∷ 48 ∷ 10 ∷ 115 ∷ 105 ∷ 122 ∷ 101 ∷ 32 ∷ 49 ∷ 10 ∷ [])
-    ≡ refused Extra 2
+    ≡ refused (record { why = Extra; line = 2 })
 unfolding member ℕ_discrete numeral sheet_text
 sheet7 = refl

@@ -3,6 +3,7 @@ use Prim.Native.Nat.{ℕ, zero, suc, ◌+◌, ◌-◌, ◌≤◌, ◌<◌}
 use mathlib.Core.Path.{◌≡◌, refl, sym, ap, subst, ◌∙◌}
 use mathlib.Core.List.{List, [], ◌∷◌, ◌++◌, map, append_assoc, append-nil}
 use mathlib.Core.Bool.{Bool, true, false}
+use Rattle.std.specs.Prelude.{Option, Some, Result, Ok}
 use native.Mathlib.Numerals.{add-one}
 use native.Mathlib.Decide.{dec_lt}
 use native.Mathlib.Omega.{arith}
@@ -16,9 +17,9 @@ use Rattle.clashes.proofs.DivisionLaws.{groups_fit}
 use Rattle.clashes.proofs.ColouringLaws.{canon_below}
 use Rattle.lines.specs.Text.{Text, lines_of}
 use Rattle.lines.specs.Numeral.{numeral, one_line}
-use Rattle.lines.specs.declared.Alone.{Alone}
 use Rattle.lines.proofs.Back.{alone_back, one_back}
 use Rattle.sheets.specs.Check.{groups_word, size_word}
+use Rattle.sheets.specs.declared.SheetFault.{SheetFault}
 use Rattle.sheet_texts.specs.Sheet.{members_of, member_lines, groups_text, sheet_text}
 use Rattle.sheet_texts.proofs.Members.{members_le}
 use Rattle.sheet_texts.proofs.Groups.{Rising, group_led, members_risen}
@@ -29,8 +30,11 @@ use Rattle.mends.specs.Typed.{Typed, is, member, group, step_of, groups_of, afte
 use Rattle.mends.proofs.Seen.{flat}
 use Rattle.mends.proofs.Passing.{sheet_groups_from, sheet_groups}
 
-abbrev coming : ℕ → ℕ → Counts
-coming left need = record { begun = true; left = left; need = need }
+abbrev counts : ℕ → ℕ → Counts
+counts left need = record { left = left; need = need }
+
+abbrev coming : ℕ → ℕ → Option Counts
+coming left need = Some (counts left need)
 
 abbrev all : List ℕ → Typed → Typed
 all [] t = t
@@ -42,12 +46,12 @@ all_is (u ∷ us) vs gs = ap (member u) (all_is us vs gs)
 
 -- ---- one line
 
-member_step : (left need i : ℕ) → i + 1 < 10000000 → step_of (coming left (suc need)) (numeral (i + 1)) ≡ Member (coming left need) (suc i)
+member_step : (left need i : ℕ) → i + 1 < 10000000 → step_of (coming left (suc need)) (numeral (i + 1)) ≡ Ok (Member (counts left need) (suc i))
 member_step left need i h =
     let e : suc need - 1 ≡ need = omega arith in
     rw (le-leb 1 (suc need) (omega arith), alone_back (i + 1) h, e, add-one i)
 
-size_step : (left s : ℕ) → 1 ≤ s → s < 10000000 → step_of (coming (suc left) 0) (size_word ++ numeral s) ≡ Size (coming left s)
+size_step : (left s : ℕ) → 1 ≤ s → s < 10000000 → step_of (coming (suc left) 0) (size_word ++ numeral s) ≡ Ok (Size (counts left s))
 size_step left s l h =
     let e : suc left - 1 ≡ left = omega arith in
     rw (le-leb 1 (suc left) (omega arith), alone_back s h, le-leb 1 s l, e)
@@ -63,7 +67,7 @@ module _ (c : List ℕ) (canon : Canon 0 c) (few : length c < 9999999) where
       let e : line + 1 + length l ≡ line + suc (length l) = omega arith in
       ap (λ (x : List ℕ). typed_from (lines_of x) line (coming left (suc (length l)))) (append_assoc (one_line [] (i + 1)) (member_lines l) rest)
       ∙ ap (λ (x : Text). typed_from x line (coming left (suc (length l)))) (one_back [] (i + 1) t tt)
-      ∙ ap (λ (x : Step). after x line (typed_from (lines_of t) (line + 1))) (member_step left (length l) i (omega (arith, r.1)))
+      ∙ ap (λ (x : Result Step SheetFault). after x line (typed_from (lines_of t) (line + 1))) (member_step left (length l) i (omega (arith, r.1)))
       ∙ ap (member (suc i))
       (members_typed (i + 1) l rest (line + 1) left r.2 ∙ ap (λ (x : ℕ). all (map suc l) (typed_from (lines_of rest) x (coming left 0))) e)
 
@@ -79,7 +83,7 @@ module _ (c : List ℕ) (canon : Canon 0 c) (few : length c < 9999999) where
       ap (λ (x : List ℕ). typed_from (lines_of x) line (coming (suc k) 0)) (append_assoc (one_line size_word (length m)) (member_lines m) t)
       ∙ ap (λ (x : Text). typed_from x line (coming (suc k) 0)) (one_back size_word (length m) (member_lines m ++ t)
       ((λ e. omega arith), ((λ e. omega arith), ((λ e. omega arith), ((λ e. omega arith), ((λ e. omega arith), tt))))))
-      ∙ ap (λ (x : Step). after x line (typed_from (lines_of (member_lines m ++ t)) (line + 1))) (size_step k (length m) e (omega (arith, members_le c 0 g)))
+      ∙ ap (λ (x : Result Step SheetFault). after x line (typed_from (lines_of (member_lines m ++ t)) (line + 1))) (size_step k (length m) e (omega (arith, members_le c 0 g)))
       ∙ ap group (a ∙ ap (all (map suc m)) b ∙ all_is (map suc m) [] (sheet_groups_from c (g + 1) k))
       ∙ ap (λ (x : List ℕ). is [] (x ∷ sheet_groups_from c (g + 1) k)) (append-nil (map suc m))
 
@@ -89,7 +93,7 @@ module _ (c : List ℕ) (canon : Canon 0 c) (few : length c < 9999999) where
       let k = groups 0 c in
       ap typed_of (one_back groups_word k (groups_text c 0 k)
       ((λ e. omega arith), ((λ e. omega arith), ((λ e. omega arith), ((λ e. omega arith), ((λ e. omega arith), ((λ e. omega arith), ((λ e. omega arith), tt))))))))
-      ∙ ap (λ (x : Alone). after (groups_of x) 1 (typed_from (lines_of (groups_text c 0 (groups 0 c))) 2)) (alone_back k (omega (arith, groups_fit 0 c canon)))
+      ∙ ap (λ (x : Option ℕ). after (groups_of x) 1 (typed_from (lines_of (groups_text c 0 (groups 0 c))) 2)) (alone_back k (omega (arith, groups_fit 0 c canon)))
       ∙ groups_typed k 0 2 (omega arith)
 
 -- ---- each entry stands once

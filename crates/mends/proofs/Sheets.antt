@@ -10,21 +10,20 @@ use mathlib.Core.Bool.{Bool, true, false, cond}
 use native.Mathlib.Omega.{arith}
 use borrow.Author.Tests.{leb-true, leb-false, le-leb}
 use lib.Dec.{leb}
+use Rattle.std.specs.Prelude.{Option, None, Some, Ok, Err}
 use lib.ListN.{length}
 use Rattle.clashes.specs.Divisions.{Canon, groups}
 use Rattle.clashes.specs.Matrix.{Valid}
 use Rattle.lines.specs.Text.{Text, done, unended, ended, lines_of}
-use Rattle.lines.specs.declared.Alone.{Alone}
-use Rattle.lines.specs.declared.Alone.TheVariants.{Only, Other}
 use Rattle.lists.specs.Read.{most_entries, longest_text}
 use Rattle.sheets.specs.Check.{groups_word, size_word, behind_of}
-use Rattle.sheets.specs.declared.SheetFault.{SheetFault}
+use Rattle.sheets.specs.declared.Refused.{Refused}
 use Rattle.sheets.specs.declared.SheetFault.TheVariants.{Long, Ends, Line, Extra}
 use Rattle.sheet_texts.specs.Sheet.{sheet_text}
 use Rattle.sheet_texts.proofs.Lengths.{sheet_fits}
 use Rattle.texts.specs.Sheets.{SheetOf}
 use Rattle.mends.specs.declared.Counts.{Counts}
-use Rattle.mends.specs.declared.Step.TheVariants.{Stop, Size}
+use Rattle.mends.specs.declared.Step.TheVariants.{Size}
 use Rattle.mends.specs.Typed.{Typed, is, faulty, group, groups_of, size_of, after, typed_from, typed_of}
 use Rattle.mends.specs.Mend.{mended}
 use Rattle.mends.specs.Report.{output_text}
@@ -52,7 +51,7 @@ grouped (is us gs) = tt
 grouped (faulty f k) = tt
 
 -- where no member is to come
-rest_headed : (t : Text) (line left : ℕ) → Headed (typed_from t line (record { begun = true; left = left; need = 0 }))
+rest_headed : (t : Text) (line left : ℕ) → Headed (typed_from t line (Some (record { left = left; need = 0 })))
 rest_headed done line left = go (leb 1 left)
   where
     go : (b : Bool) → Headed (cond (cond b false true) (is [] []) (faulty Ends line))
@@ -65,13 +64,13 @@ rest_headed (unended l) line left = go (leb 1 left)
     go false = tt
 rest_headed (ended l t) line left = size (leb 1 left) (behind_of size_word l)
   where
-    some : (b : Bool) (d : Counts) → Headed (after (cond b (Size d) (Stop Line)) line (typed_from t (line + 1)))
-    some true d = grouped (typed_from t (line + 1) d)
+    some : (b : Bool) (d : Counts) → Headed (after (cond b (Ok (Size d)) (Err Line)) line (typed_from t (line + 1)))
+    some true d = grouped (typed_from t (line + 1) (Some d))
     some false d = tt
 
-    size : (b : Bool) (a : Alone) → Headed (after (cond b (size_of (record { begun = true; left = left; need = 0 }) a) (Stop Extra)) line (typed_from t (line + 1)))
-    size true Other = tt
-    size true (Only s) = some (leb 1 s) _
+    size : (b : Bool) (a : Option ℕ) → Headed (after (cond b (size_of (record { left = left; need = 0 }) a) (Err Extra)) line (typed_from t (line + 1)))
+    size true None = tt
+    size true (Some s) = some (leb 1 s) _
     size false a = tt
 
 pub headed : (t : Text) → Headed (typed_of t)
@@ -79,11 +78,14 @@ headed done = tt
 headed (unended l) = tt
 headed (ended l t) = go (behind_of groups_word l)
   where
-    go : (a : Alone) → Headed (after (groups_of a) 1 (typed_from t 2))
-    go Other = tt
-    go (Only k) = rest_headed t 2 k
+    go : (a : Option ℕ) → Headed (after (groups_of a) 1 (typed_from t 2))
+    go None = tt
+    go (Some k) = rest_headed t 2 k
 
 -- ---- what is printed
+
+abbrev long_one : Refused
+long_one = record { why = Long; line = 0 }
 
 module _ (longest n : ℕ) (clash : ℕ → ℕ → Bool) (s : List ℕ) where
   pub record Printed (x : List ℕ) : Type 0 where
@@ -95,22 +97,26 @@ module _ (longest n : ℕ) (clash : ℕ → ℕ → Bool) (s : List ℕ) where
   pub printed_is : (x : List ℕ) → mend_sheet_up_to longest n clash s ≡ printed x → Printed x
   printed_is x e = go (leb (length s) longest) refl (typed_of (lines_of s)) refl (headed (lines_of s)) e
     where
-      go : (b : Bool) → leb (length s) longest ≡ b → (t : Typed) → typed_of (lines_of s) ≡ t → Headed t → cond b (mend_typed n clash t) (refused Long 0) ≡ printed x → Printed x
+      go : (b : Bool) → leb (length s) longest ≡ b → (t : Typed) → typed_of (lines_of s) ≡ t → Headed t → cond b (mend_typed n clash t) (refused long_one) ≡ printed x → Printed x
       go true l (is [] gs) q h e = let z : output_text n clash gs ≡ x = cc in record { short = leb-true (length s) longest l; groups = gs; typed = q; text = sym z }
       go true l (is (u ∷ us) gs) q h e = absurd h
       go true l (faulty f k) q h e = let z : ◌≡◌ {A = ℕ} 0 1 = cc in absurd (omega arith)
       go false l t q h e = let z : ◌≡◌ {A = ℕ} 0 1 = cc in absurd (omega arith)
 
   -- refused: 18, or what was typed has that fault
-  pub refused_is : (f : SheetFault) (k : ℕ) → mend_sheet_up_to longest n clash s ≡ refused f k
-      → ((f ≡ Long) × (k ≡ 0) × (longest < length s)) ⊎ ((length s ≤ longest) × (typed_of (lines_of s) ≡ faulty f k))
-  refused_is f k e = go (leb (length s) longest) refl (typed_of (lines_of s)) refl e
+  pub refused_is : (r : Refused) → mend_sheet_up_to longest n clash s ≡ refused r
+      → ((r.why ≡ Long) × (r.line ≡ 0) × (longest < length s)) ⊎ ((length s ≤ longest) × (typed_of (lines_of s) ≡ faulty r.why r.line))
+  refused_is r e = go (leb (length s) longest) refl (typed_of (lines_of s)) refl e
     where
-      go : (b : Bool) → leb (length s) longest ≡ b → (t : Typed) → typed_of (lines_of s) ≡ t → cond b (mend_typed n clash t) (refused Long 0) ≡ refused f k
-          → ((f ≡ Long) × (k ≡ 0) × (longest < length s)) ⊎ ((length s ≤ longest) × (typed_of (lines_of s) ≡ faulty f k))
+      go : (b : Bool) → leb (length s) longest ≡ b → (t : Typed) → typed_of (lines_of s) ≡ t → cond b (mend_typed n clash t) (refused long_one) ≡ refused r
+          → ((r.why ≡ Long) × (r.line ≡ 0) × (longest < length s)) ⊎ ((length s ≤ longest) × (typed_of (lines_of s) ≡ faulty r.why r.line))
       go true l (is us gs) q e = let z : ◌≡◌ {A = ℕ} 0 1 = cc in absurd (omega arith)
-      go true l (faulty g j) q e = let a : g ≡ f = cc in let b : j ≡ k = cc in inr (leb-true (length s) longest l, q ∙ ap (λ (x : SheetFault). faulty x j) a ∙ ap (faulty f) b)
-      go false l t q e = let a : f ≡ Long = cc in let b : k ≡ 0 = cc in inl (a, b, leb-false (length s) longest l)
+      go true l (faulty g j) q e =
+          let z : ◌≡◌ {A = Refused} (record { why = g; line = j }) r = cc in
+          inr (leb-true (length s) longest l, q ∙ ap (λ (x : Refused). faulty x.why x.line) z)
+      go false l t q e =
+          let z : r ≡ long_one = cc in
+          inl (ap (λ (x : Refused). x.why) z, ap (λ (x : Refused). x.line) z, leb-false (length s) longest l)
 
 module _ (most longest : ℕ) (fit : Fitting most longest) (n : ℕ) (few : n ≤ most) (clash : ℕ → ℕ → Bool) (valid : Valid n clash) where
   -- the mended sheet is that of a clash-free division
@@ -135,6 +141,6 @@ module _ (most longest : ℕ) (fit : Fitting most longest) (n : ℕ) (few : n �
       let m : output_text n clash (sheet_groups c) ≡ s =
       ap (λ (x : List ℕ). x ++ sheet_text (mended n clash (sheet_groups c))) (passing_silent n clash c d.numbered d.long q.free)
       ∙ ap sheet_text (passing_same n clash c d.numbered d.long q.free) ∙ sym e in
-      ap (λ (b : Bool). cond b (mend_typed n clash (typed_of (lines_of s))) (refused Long 0)) (le-leb (length s) longest q.short)
+      ap (λ (b : Bool). cond b (mend_typed n clash (typed_of (lines_of s))) (refused long_one)) (le-leb (length s) longest q.short)
       ∙ ap (mend_typed n clash) t
       ∙ ap printed m

@@ -11,7 +11,7 @@
 --
 -- What depends on a limit is stated for lists of up to `most` entries and texts of up to `longest` bytes (`mend_sheet_up_to longest`, .., `MendPromiseUpTo plain
 -- most longest`) and is then named for today's limits. Assumes nothing.
-use Rattle.std.specs.Prelude.{ℕ, ◌≡◌, List, Bool, cond, leb, length}
+use Rattle.std.specs.Prelude.{ℕ, ◌≡◌, List, Bool, cond, leb, length, Result, Ok, Err}
 use Rattle.refusals.specs.Table.{told_at, accepted}
 use Rattle.refusals.specs.declared.Refusal.{Refusal}
 use Rattle.refusals.specs.declared.Refusal.TheVariants as refusal
@@ -20,53 +20,53 @@ use Rattle.lines.specs.Text.{lines_of}
 use Rattle.lines.specs.Numeral.{over}
 use Rattle.lists.specs.Read.{read_up_to, most_entries, longest_text}
 use Rattle.lists.specs.Promise.{refusal_of_lem as list_refusal_of}
-use Rattle.lists.specs.declared.Fault.{Fault}
-use Rattle.lists.specs.declared.Reading.{Reading}
-use Rattle.lists.specs.declared.Reading.TheVariants.{Read, Refused as Unreadable}
-use Rattle.sheets.specs.Promise.{refusal_of_lem, neither, the_list, the_sheet}
-use Rattle.sheets.specs.declared.SheetFault.{SheetFault}
+use Rattle.lists.specs.declared.Gathered.{Gathered}
+use Rattle.lists.specs.declared.Unread.{Unread}
+use Rattle.sheets.specs.Promise.{refusal_of_lem}
+use Rattle.sheets.specs.declared.Refused.{Refused}
 use Rattle.sheets.specs.declared.SheetFault.TheVariants.{Long}
+use Rattle.sheets.specs.declared.Text.{Text}
+use Rattle.sheets.specs.declared.Text.TheVariants.{Neither, TheList, TheSheet}
 use Rattle.mends.specs.Typed.{Typed, is, faulty, typed_of}
 use Rattle.mends.specs.Report.{output_text}
-use Rattle.mends.specs.declared.Mended.{Mended}
-use Rattle.mends.specs.declared.Mended.TheVariants.{Written, Unread, Refused, Full}
+use Rattle.mends.specs.declared.Unmended.{Unmended}
+use Rattle.mends.specs.declared.Unmended.TheVariants.{OfList, OfSheet, Full}
 use Rattle.mends.specs.declared.Numbers.{Numbers}
 
 pub data Mending : Type 0 where
   printed : List ℕ → Mending
-  unread : Fault → ℕ → ℕ → Mending
-  refused : SheetFault → ℕ → Mending
+  unread : Unread → Mending
+  refused : Refused → Mending
 
 -- "Refusals: clash text's own, then 18, 30, 35, 37"
 abbrev pub mend_typed : ℕ → (ℕ → ℕ → Bool) → Typed → Mending
 mend_typed n clash (is us gs) = printed (output_text n clash gs)
-mend_typed n clash (faulty f k) = refused f k
+mend_typed n clash (faulty f k) = refused (record { why = f; line = k })
 
 abbrev pub mend_sheet_up_to : ℕ → ℕ → (ℕ → ℕ → Bool) → List ℕ → Mending
-mend_sheet_up_to longest n clash s = cond (leb (length s) longest) (mend_typed n clash (typed_of (lines_of s))) (refused Long 0)
+mend_sheet_up_to longest n clash s = cond (leb (length s) longest) (mend_typed n clash (typed_of (lines_of s))) (refused (record { why = Long; line = 0 }))
 
-abbrev pub against_up_to : ℕ → Reading → List ℕ → List ℕ → Mending
-against_up_to longest (Unreadable f k c) rows s = unread f k c
-against_up_to longest (Read n) rows s = mend_sheet_up_to longest n (matrix rows) s
+abbrev pub against_up_to : ℕ → Result Gathered Unread → List ℕ → Mending
+against_up_to longest (Err why) s = unread why
+against_up_to longest (Ok list) s = mend_sheet_up_to longest list.n (matrix list.rows) s
 
 -- with as many rows to read into as a list can have, so that 17 cannot arise
 abbrev pub mend_up_to : Bool → ℕ → ℕ → List ℕ → List ℕ → Mending
-mend_up_to plain most longest list s =
-    against_up_to longest (read_up_to plain most longest list most).answer (read_up_to plain most longest list most).rows s
+mend_up_to plain most longest list s = against_up_to longest (read_up_to plain most longest list most) s
 
 -- "19 last", for the whole output
-abbrev pub answer_of : Mending → ℕ → Mended
-answer_of (printed x) room = cond (leb (length x) room) (Written (length x)) Full
-answer_of (unread f k c) room = Unread f k c
-answer_of (refused f k) room = Refused f k
+abbrev pub answer_of : Mending → ℕ → Result ℕ Unmended
+answer_of (printed x) room = cond (leb (length x) room) (Ok (length x)) (Err Full)
+answer_of (unread why) room = Err (OfList why)
+answer_of (refused why) room = Err (OfSheet why)
 
 -- the output from the first byte on and the others as they were; refused: nothing is written
 abbrev pub left_of : Mending → List ℕ → List ℕ
 left_of (printed x) old = cond (leb (length x) (length old)) (over old 0 x) old
-left_of (unread f k c) old = old
-left_of (refused f k) old = old
+left_of (unread why) old = old
+left_of (refused why) old = old
 
-pub record MendPromiseUpTo (plain : Bool) (most longest : ℕ) (list s old : List ℕ) (a : Mended) (new : List ℕ) : Type 0 where
+pub record MendPromiseUpTo (plain : Bool) (most longest : ℕ) (list s old : List ℕ) (a : Result ℕ Unmended) (new : List ℕ) : Type 0 where
   -- written, with the output's length, or refused with the first refusal that there is, its text, its line and its column
   pub answer : a ≡ answer_of (mend_up_to plain most longest list s) (length old)
   -- written: the output, and the bytes after it as they were; refused: nothing is written
@@ -74,14 +74,14 @@ pub record MendPromiseUpTo (plain : Bool) (most longest : ℕ) (list s old : Lis
 
 -- ---- the numbers
 
-abbrev pub refused_in_lem : ℕ → Refusal → ℕ → ℕ → Numbers
+abbrev pub refused_in_lem : Text → Refusal → ℕ → ℕ → Numbers
 refused_in_lem text r k c = let t = told_at r k c in record { number = t.number; line = t.line; column = t.column; length = 0; text = text }
 
-abbrev pub numbers_of_lem : Mended → Numbers
-numbers_of_lem (Written k) = record { number = accepted; line = 0; column = 0; length = k; text = neither }
-numbers_of_lem (Unread f k c) = refused_in_lem the_list (list_refusal_of f) k c
-numbers_of_lem (Refused f k) = refused_in_lem the_sheet (refusal_of_lem f) k 0
-numbers_of_lem Full = refused_in_lem the_sheet refusal.Full 0 0
+abbrev pub numbers_of_lem : Result ℕ Unmended → Numbers
+numbers_of_lem (Ok k) = record { number = accepted; line = 0; column = 0; length = k; text = Neither }
+numbers_of_lem (Err (OfList u)) = refused_in_lem TheList (list_refusal_of u.why) u.line u.column
+numbers_of_lem (Err (OfSheet r)) = refused_in_lem TheSheet (refusal_of_lem r.why) r.line 0
+numbers_of_lem (Err Full) = refused_in_lem TheSheet refusal.Full 0 0
 
 -- ---- today's limits
 
@@ -91,5 +91,5 @@ mend_sheet_lem n clash s = mend_sheet_up_to longest_text n clash s
 abbrev pub mend_of : Bool → List ℕ → List ℕ → Mending
 mend_of plain list s = mend_up_to plain most_entries longest_text list s
 
-abbrev pub MendPromise : Bool → List ℕ → List ℕ → List ℕ → Mended → List ℕ → Type 0
+abbrev pub MendPromise : Bool → List ℕ → List ℕ → List ℕ → Result ℕ Unmended → List ℕ → Type 0
 MendPromise plain list s old a new = MendPromiseUpTo plain most_entries longest_text list s old a new

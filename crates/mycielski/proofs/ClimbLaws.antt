@@ -26,8 +26,7 @@ use Rattle.cliques.proofs.ListLaws.{in_of}
 use Rattle.cliques.proofs.CliqueLaws.{clique_is}
 use Rattle.cliques.proofs.WordLaws.{size_length}
 use Rattle.mycielski.specs.Rounds.{Part, every_edge, near_all, offers, of_w_lem, extend, full, round, rounds, limit, mycielskian}
-use Rattle.mycielski.specs.Words.{part_of, Among, Serves, ServesAll}
-use Rattle.mycielski.specs.declared.Sub.{Sub}
+use Rattle.mycielski.specs.Words.{Sub, part_of, Among, Serves, ServesAll}
 use Rattle.mycielski.proofs.RoundLaws.{Fine, clique_fine, fine_round, rounds_le, rounds_end, clique_le}
 
 module _ {cap : ℕ} (h : Node) (k : HeldAt cap h) where
@@ -76,10 +75,6 @@ module _ {cap : ℕ} (h : Node) (k : HeldAt cap h) where
 
       is : every_edge (has c) ≡ every_edge (λ x. is_in x (clique n g))
       is = ap every_edge (fun_ext q)
-
-  -- the same of an H and of a bound that are known to be these
-  pub climb_from : {H : Part} {b : ℕ} (c : ℕ) → IsSetOf (clique n g) c → H ≡ every_edge (has c) → b ≡ size cap c → Climb H b
-  climb_from {H} {b} c q e f = subst (λ (a : ℕ). Climb H a) (sym f) (subst (λ (K : Part). Climb K (size cap c)) (sym e) (climb_start c q))
 
   pub clique_live : (c : ℕ) → IsSetOf (clique n g) c → Within c h.live
   clique_live c q x t = subst T (sym (k.lives x)) (of_live n g x ((clique_is n g k.good).lives x (in_of x (clique n g) (subst T (q x) t))))

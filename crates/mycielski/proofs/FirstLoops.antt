@@ -15,7 +15,7 @@ use Rattle.sets.specs.Set.{has, IsWithout, IsMeet, IsJoin, IsLess, IsLowest}
 use Rattle.sets.proofs.TestLaws.{and_l, and_r, and_t, not_t, t_not, T?, T-ext, all_get, all_make, any_get}
 use Rattle.sets.proofs.ListLaws.{no_dup_le}
 use Rattle.sets.proofs.MemberLaws.{members_count, members_none, In-members, members-In, members_no_dup}
-use Rattle.sets.proofs.SetLaws.{has_none}
+use Rattle.sets.proofs.SetLaws.{has_none, same_members}
 use Rattle.graphs.specs.Graph.{Graph, live}
 use Rattle.graphs.specs.Held.{view, HeldAt}
 use Rattle.graphs.specs.declared.Node.{Node}
@@ -117,9 +117,20 @@ module _ (cap live : ℕ) (rows : List ℕ) (c : ℕ) where
         two true d a b = refl
         two false d a b = refl
 
+-- every live vertex lacks a member, where none is left that does not
+pub once_all : {live once none : ℕ} → Within once live → IsLess live once none → none ≡ 0 → once ≡ live
+once_all {live} {once} {none} i w e =
+    same_members once live (λ x. T-ext (has once x) (has live x) (i x)
+    (λ t. go x t (T? (has once x))))
+  where
+    go : (x : ℕ) → T (has live x) → Dec (T (has once x)) → T (has once x)
+    go x t (yes u) = u
+    go x t (no u) =
+        absurd (subst T (ap (λ (s : ℕ). has s x) e ∙ has_none x) (subst T (sym (w x)) (and_t (has live x) (not (has once x)) t (not_t (has once x) u))))
+
 -- ---- S(v), and where W is
 
-module _ {cap : ℕ} (h : Node) (k : HeldAt cap h) (c : ℕ) (verts : Within c h.live) (lack : Lack) (l : LacksAt cap h.live h.rows c lack) where
+module _ {cap : ℕ} (h : Node) (k : HeldAt cap h) (c : ℕ) (verts : Within c h.live) (lack : Lack ℕ) (l : LacksAt cap h.live h.rows c lack) where
   abbrev g : Graph
   g = view h
 

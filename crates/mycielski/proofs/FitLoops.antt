@@ -5,7 +5,7 @@ use mathlib.Core.List.{List}
 use Prim.Native.Nat.{ℕ, zero}
 use native.Mathlib.Omega.{arith}
 use lib.Dec.{T}
-use lib.ListN.{length, get_or, set, replicate, length-set, length-replicate}
+use lib.ListN.{length, get_or, set, length-set}
 use borrow.Author.Tests.{ne_eqb}
 use Rattle.sets.specs.Set.{has, IsWithout, IsLowest}
 use Rattle.sets.proofs.TestLaws.{or_false}
@@ -20,8 +20,8 @@ module _ (cap verts : ℕ) (serves : ℕ → ℕ → Bool) where
     pub within : Within left verts
     pub is : (v : ℕ) → T (done verts left v) → (x : ℕ) → has (get_or fit v zero) x ≡ serves v x
 
-  pub fitting_start : Fitting (replicate cap 0) verts
-  fitting_start = record { wide = length-replicate cap zero; within = λ x t. t; is = λ v t. absurd (subst T (done_none verts v) t) }
+  pub fitting_start : (fit : List ℕ) → length fit ≡ cap → Fitting fit verts
+  fitting_start fit l = record { wide = l; within = λ x t. t; is = λ v t. absurd (subst T (done_none verts v) t) }
 
   pub fitting_again : (fit : List ℕ) (left v s left' : ℕ) → Fitting fit left → IsLowest cap left v → ((x : ℕ) → has s x ≡ serves v x) → IsWithout left v left'
       → Fitting (set fit v s) left'

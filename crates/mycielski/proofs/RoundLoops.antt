@@ -18,8 +18,7 @@ use Rattle.graphs.specs.declared.Node.{Node}
 use Rattle.graphs.proofs.HeldLaws.{live_below}
 use Rattle.cliques.specs.Growth.{Within}
 use Rattle.mycielski.specs.Rounds.{Part, near_all, of_s, offers, of_w_lem, chosen, tied, extend}
-use Rattle.mycielski.specs.Words.{part_of, Among, Ties}
-use Rattle.mycielski.specs.declared.Sub.{Sub}
+use Rattle.mycielski.specs.Words.{Sub, part_of, Among, Ties}
 use Rattle.mycielski.proofs.DoneLaws.{imp_get, done, done_none, done_all, within_again, done_more, any_more, any_none}
 use Rattle.mycielski.proofs.EdgeLoops.{part_ext}
 use Rattle.mycielski.proofs.WitnessLoops.{serving_live}

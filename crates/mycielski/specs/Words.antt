@@ -1,5 +1,7 @@
 -- H in words.
 --
+--   Sub                 : H: its vertices, and for each the vertices that an edge of H joins it to
+--   sub set near        : the H of these
 --   part_of p            : the part that the words p hold
 --   Among live p        : p's vertices, and the ends of its edges, are among the live vertices
 --   reachable n g s w   : w is adjacent to some member of s
@@ -18,8 +20,14 @@ use Rattle.sets.specs.Set.{has}
 use Rattle.graphs.specs.Graph.{Graph}
 use Rattle.cliques.specs.Growth.{Within}
 use Rattle.mycielski.specs.Rounds.{Part, every_edge, near_all}
-use Rattle.mycielski.specs.declared.Sub.{Sub}
 use Rattle.mycielski.specs.declared.Lack.{Lack}
+
+pub record Sub : Type 0 where
+  pub set : ℕ
+  pub near : List ℕ
+
+abbrev pub sub : ℕ → List ℕ → Sub
+sub set near = record { set = set; near = near }
 
 abbrev pub part_of : Sub → Part
 part_of p = record { vert = λ x. has p.set x; edge = λ x y. has (get_or p.near x zero) y }
@@ -44,11 +52,11 @@ pub record Ties (near : List ℕ) (u ys : ℕ) (r : List ℕ) : Type 0 where
 abbrev pub misses : ℕ → List ℕ → ℕ → ℕ → ℕ
 misses cap rows c x = count (λ v. has c v && not (has (get_or rows v zero) x)) (upto cap)
 
-pub record LacksAt (cap live : ℕ) (rows : List ℕ) (c : ℕ) (m : Lack) : Type 0 where
+pub record LacksAt (cap live : ℕ) (rows : List ℕ) (c : ℕ) (m : Lack ℕ) : Type 0 where
   pub once : (x : ℕ) → has m.once x ≡ (has live x && leb 1 (misses cap rows c x))
   pub twice : (x : ℕ) → has m.twice x ≡ (has live x && leb 2 (misses cap rows c x))
 
-abbrev pub Lacks : ℕ → List ℕ → ℕ → Lack → Type 0
+abbrev pub Lacks : ℕ → List ℕ → ℕ → Lack ℕ → Type 0
 Lacks live rows c m = LacksAt 64 live rows c m
 
 pub record Outside (live c once r : ℕ) : Type 0 where

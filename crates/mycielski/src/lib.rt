@@ -1,108 +1,100 @@
-// The Mycielskian bound of a node, in words: H's vertices and edges, S(v) and W are meets and joins of rows.
+// The Mycielskian bound of a node, in sets of any width. H is a set of vertices, and rows of its edges; S(v) and W are meets and joins of rows.
 #![tactic(auto)]
 
-ghost use Rattle.std.specs.Prelude.{◌≡◌, ◌&&◌, ℕ, ◌<◌, T, length};
+ghost use Rattle.std.specs.Prelude.{◌≡◌, ◌&&◌, ℕ, zero, ◌<◌, T, length, replicate};
 ghost use Rattle.sets.specs.Set.{has, size as size_of};
-ghost use Rattle.graphs.specs.Held.{view, Held, Holds, Each};
+ghost use Rattle.graphs.specs.Held.{view, Held, HoldsAt, EachAt};
 ghost use Rattle.cliques.specs.Clique.{clique};
 ghost use Rattle.cliques.specs.Growth.{IsSetOf, Within};
 ghost use Rattle.mycielski.specs.Rounds.{every_edge, near_all, of_w_lem, extend, mycielskian};
-ghost use Rattle.mycielski.specs.Words.{part_of, Among, reachable, Serves, ServesAll, Ties, Lacks, Outside, Climbs};
+ghost use Rattle.mycielski.specs.Words.{Sub, sub, part_of, Among, reachable, Serves, ServesAll, Ties, LacksAt, Outside, Climbs};
 
 use cliques::clique_among;
 use graphs::Node;
-use sets::{join, less, lowest, meet, rest, size, with, without};
-
-// H: its vertices, and for each the vertices that an edge of H joins it to.
-#[derive(Clone, Copy)]
-pub struct Sub {
-    pub set: u64,
-    pub near: [u64; 64],
-}
+use wide::Bits;
 
 // The live vertices that are not adjacent to some member of a set, and those that are not adjacent to two.
 #[derive(Clone, Copy)]
-pub struct Lack {
-    pub once: u64,
-    pub twice: u64,
+pub struct Lack<S> {
+    pub once: S,
+    pub twice: S,
 }
 
-// The clique c, with every edge between two of its members.
-pub fn whole(c: u64) -> Sub
-    ensures { part_of result ≡ every_edge (has c) }
+// Rows that have no edge get every edge between two members of the clique c.
+pub fn whole<S: Bits>(c: S, near: &mut [u64])
+    requires { near.old ≡ replicate S.lent zero }
+    ensures near_len { length near.new ≡ S.lent }
+    ensures near_after { part_of (sub (S.as_num c) (S.as_rows near.new)) ≡ every_edge (has (S.as_num c)) }
 {
-    let mut near = [0u64; 64];
     let mut left = c;
-    while left != 0 {
-        let v = lowest(left);
-        near[v] = without(c, v);
-        left = rest(left);
+    while !left.is_empty() {
+        let v = left.lowest();
+        c.without(v).put(near, v);
+        left = left.rest();
     }
-    Sub { set: c, near: near }
 }
 
 // S(v), where `near` has the H-neighbours of v: the live vertices that are adjacent to all of them.
-pub fn serving(live: u64, rows: &[u64], near: u64) -> u64
-    requires rows_len { length rows.now ≡ 64 }
-    requires within { Within near live }
-    ensures { Each live rows.now (λ h. (x : ℕ) → has result x ≡ near_all h.n (view h) (has near) x) }
+pub fn serving<S: Bits>(live: S, rows: &[u64], near: S) -> S
+    requires rows_len { length rows.now ≡ S.lent }
+    requires within { Within (S.as_num near) (S.as_num live) }
+    ensures { EachAt S.cap (S.as_num live) (S.as_rows rows.now) (λ h. (x : ℕ) → has (S.as_num result) x ≡ near_all h.n (view h) (has (S.as_num near)) x) }
 {
     let mut s = live;
     let mut left = near;
-    while left != 0 {
-        let y = lowest(left);
-        s = meet(s, rows[y]);
-        left = rest(left);
+    while !left.is_empty() {
+        let y = left.lowest();
+        s = s.meet(S::row(rows, y));
+        left = left.rest();
     }
     s
 }
 
 // The vertices that are adjacent to some member of s; bits of others mean nothing.
-pub fn reached(rows: &[u64], s: u64) -> u64
-    requires { length rows.now ≡ 64 }
-    ensures { (l : ℕ) → Within s l → Each l rows.now (λ h. (w : ℕ) → (has l w && has result w) ≡ reachable h.n (view h) s w) }
+pub fn reached<S: Bits>(rows: &[u64], s: S) -> S
+    requires { length rows.now ≡ S.lent }
+    ensures { (l : ℕ) → Within (S.as_num s) l → EachAt S.cap l (S.as_rows rows.now) (λ h. (w : ℕ) → (has l w && has (S.as_num result) w) ≡ reachable h.n (view h) (S.as_num s) w) }
 {
-    let mut r: u64 = 0;
+    let mut r = S::none();
     let mut left = s;
-    while left != 0 {
-        let x = lowest(left);
-        r = join(r, rows[x]);
-        left = rest(left);
+    while !left.is_empty() {
+        let x = left.lowest();
+        r = r.join(S::row(rows, x));
+        left = left.rest();
     }
     r
 }
 
 // Edges between u and each of ys.
-pub fn tie(near: &mut [u64; 64], u: usize, ys: u64)
-    requires near_len { length near.old ≡ 64 }
-    requires u_bound { u < 64 }
-    ensures { Ties near.old u ys near.new }
+pub fn tie<S: Bits>(near: &mut [u64], u: usize, ys: S)
+    requires near_len { length near.old ≡ S.lent }
+    requires u_bound { u < S.cap }
+    ensures near_len_2 { length near.new ≡ S.lent }
+    ensures ties { Ties (S.as_rows near.old) u (S.as_num ys) (S.as_rows near.new) }
 {
-    let row = join(near[u], ys);
-    near[u] = row;
+    S::row(near, u).join(ys).put(near, u);
     let mut left = ys;
-    while left != 0 {
-        let y = lowest(left);
-        let row = with(near[y], u);
-        near[y] = row;
-        left = rest(left);
+    while !left.is_empty() {
+        let y = left.lowest();
+        S::row(near, y).with(u).put(near, y);
+        left = left.rest();
     }
 }
 
 // Which live vertices lack one member of c, and which two.
-pub fn lacking(live: u64, rows: &[u64], c: u64) -> Lack
-    requires { length rows.now ≡ 64 }
-    ensures { Lacks live rows.now c result }
+pub fn lacking<S: Bits>(live: S, rows: &[u64], c: S) -> Lack<S>
+    requires { length rows.now ≡ S.lent }
+    ensures { LacksAt S.cap (S.as_num live) (S.as_rows rows.now) (S.as_num c) (record { once = S.as_num result.once; twice = S.as_num result.twice }) }
 {
-    let mut once: u64 = 0;
-    let mut twice: u64 = 0;
+    let mut once = S::none();
+    let mut twice = S::none();
     let mut left = c;
-    while left != 0 {
-        let v = lowest(left);
-        let away = less(live, rows[v]);
-        twice = join(twice, meet(once, away));
-        once = join(once, away);
-        left = rest(left);
+    while !left.is_empty() {
+        let v = left.lowest();
+        let away = live.less(S::row(rows, v));
+        twice = twice.join(once.meet(away));
+        once = once.join(away);
+        left = left.rest();
     }
     Lack {
         once: once,
@@ -111,173 +103,190 @@ pub fn lacking(live: u64, rows: &[u64], c: u64) -> Lack
 }
 
 // Where W of the first round is looked for: no member of c is in it, if every vertex lacks some member.
-fn outside(live: u64, c: u64, once: u64) -> u64
-    ensures { Outside live c once result }
+fn outside<S: Bits>(live: S, c: S, once: S) -> S
+    requires { Within (S.as_num once) (S.as_num live) }
+    ensures { Outside (S.as_num live) (S.as_num c) (S.as_num once) (S.as_num result) }
 {
-    if once == live {
-        return less(live, c);
+    if live.less(once).is_empty() {
+        return live.less(c);
     }
     live
 }
 
 // W of the first round, where H is c: S(v) has the vertices that lack no member of c, or v alone.
-pub fn first_witnesses(live: u64, rows: &[u64], c: u64) -> u64
-    requires rows_len { length rows.now ≡ 64 }
-    requires within { Within c live }
-    ensures { Each live rows.now (λ h. (x : ℕ) → has result x ≡ of_w_lem h.n (view h) (every_edge (has c)) x) }
+pub fn first_witnesses<S: Bits>(live: S, rows: &[u64], c: S) -> S
+    requires rows_len { length rows.now ≡ S.lent }
+    requires within { Within (S.as_num c) (S.as_num live) }
+    ensures { EachAt S.cap (S.as_num live) (S.as_rows rows.now) (λ h. (x : ℕ) → has (S.as_num result) x ≡ of_w_lem h.n (view h) (every_edge (has (S.as_num c))) x) }
 {
     let lack = lacking(live, rows, c);
-    let few = less(live, lack.twice);
+    let few = live.less(lack.twice);
     let mut ws = outside(live, c, lack.once);
     let mut left = c;
-    while left != 0 {
-        let v = lowest(left);
-        let s = less(few, meet(lack.once, rows[v]));
-        ws = meet(ws, reached(rows, s));
-        if ws == 0 {
-            return 0;
+    while !left.is_empty() {
+        let v = left.lowest();
+        let s = few.less(lack.once.meet(S::row(rows, v)));
+        ws = ws.meet(reached(rows, s));
+        if ws.is_empty() {
+            return ws;
         }
-        left = rest(left);
+        left = left.rest();
     }
     ws
 }
 
 // W: the live vertices that are adjacent, for each v in H, to some member of S(v).
-pub fn witnesses(live: u64, rows: &[u64], set: u64, near: &[u64]) -> u64
-    requires rows_len { (length rows.now ≡ 64) × (length near.now ≡ 64) }
-    requires among { Among live (record { set = set; near = near.now }) }
-    ensures { Each live rows.now (λ h. (x : ℕ) → has result x ≡ of_w_lem h.n (view h) (part_of (record { set = set; near = near.now })) x) }
+pub fn witnesses<S: Bits>(live: S, rows: &[u64], set: S, near: &[u64]) -> S
+    requires rows_len { (length rows.now ≡ S.lent) × (length near.now ≡ S.lent) }
+    requires among { Among (S.as_num live) (sub (S.as_num set) (S.as_rows near.now)) }
+    ensures { EachAt S.cap (S.as_num live) (S.as_rows rows.now) (λ h. (x : ℕ) → has (S.as_num result) x ≡ of_w_lem h.n (view h) (part_of (sub (S.as_num set) (S.as_rows near.now))) x) }
 {
     let mut ws = live;
     let mut left = set;
-    while left != 0 {
-        let v = lowest(left);
-        let s = serving(live, rows, near[v]);
-        ws = meet(ws, reached(rows, s));
-        if ws == 0 {
-            return 0;
+    while !left.is_empty() {
+        let v = left.lowest();
+        let s = serving(live, rows, S::row(near, v));
+        ws = ws.meet(reached(rows, s));
+        if ws.is_empty() {
+            return ws;
         }
-        left = rest(left);
+        left = left.rest();
     }
     ws
 }
 
-// S(v) of each v in H.
-pub fn servings(live: u64, rows: &[u64], set: u64, near: &[u64]) -> [u64; 64]
-    requires rows_len { (length rows.now ≡ 64) × (length near.now ≡ 64) }
-    requires among { Among live (record { set = set; near = near.now }) }
-    ensures { Each live rows.now (λ h. Serves h.n (view h) (record { set = set; near = near.now }) result) }
+// `fit` gets S(v) of each v in H.
+pub fn servings<S: Bits>(live: S, rows: &[u64], set: S, near: &[u64], fit: &mut [u64])
+    requires rows_len { (length rows.now ≡ S.lent) × (length near.now ≡ S.lent) }
+    requires fit_len { length fit.old ≡ S.lent }
+    requires among { Among (S.as_num live) (sub (S.as_num set) (S.as_rows near.now)) }
+    ensures fit_len_2 { length fit.new ≡ S.lent }
+    ensures serves { EachAt S.cap (S.as_num live) (S.as_rows rows.now) (λ h. Serves h.n (view h) (sub (S.as_num set) (S.as_rows near.now)) (S.as_rows fit.new)) }
 {
-    let mut fit = [0u64; 64];
     let mut left = set;
-    while left != 0 {
-        let v = lowest(left);
-        fit[v] = serving(live, rows, near[v]);
-        left = rest(left);
+    while !left.is_empty() {
+        let v = left.lowest();
+        serving(live, rows, S::row(near, v)).put(fit, v);
+        left = left.rest();
     }
-    fit
 }
 
 // The same where H is the set c with every edge, by who lacks one member of c, and who two.
-pub fn first_servings(live: u64, rows: &[u64], c: u64) -> [u64; 64]
-    requires rows_len { length rows.now ≡ 64 }
-    requires within { Within c live }
-    ensures { Each live rows.now (λ h. ServesAll h.n (view h) c result) }
+pub fn first_servings<S: Bits>(live: S, rows: &[u64], c: S, fit: &mut [u64])
+    requires rows_len { length rows.now ≡ S.lent }
+    requires fit_len { length fit.old ≡ S.lent }
+    requires within { Within (S.as_num c) (S.as_num live) }
+    ensures fit_len_2 { length fit.new ≡ S.lent }
+    ensures serves { EachAt S.cap (S.as_num live) (S.as_rows rows.now) (λ h. ServesAll h.n (view h) (S.as_num c) (S.as_rows fit.new)) }
 {
     let lack = lacking(live, rows, c);
-    let single = less(live, lack.twice);
-    let mut fit = [0u64; 64];
+    let single = live.less(lack.twice);
     let mut left = c;
-    while left != 0 {
-        let v = lowest(left);
-        fit[v] = less(single, meet(lack.once, rows[v]));
-        left = rest(left);
-    }
-    fit
-}
-
-// H after a round with w of W, where `fit` has S(v): for each v of the old H the lowest member of S(v) that is adjacent to w comes in, tied to w
-// and to v's old H-neighbours.
-pub fn extended(live: u64, rows: &[u64], p: Sub, w: usize, fit: &[u64; 64]) -> Sub
-    requires holds { Holds live rows.now }
-    requires among { Among live p }
-    requires w_bound { w < 64 }
-    requires each { Each live rows.now (λ h. T (of_w_lem h.n (view h) (part_of p) w)) }
-    requires each_2 { Each live rows.now (λ h. Serves h.n (view h) p fit.now) }
-    ensures { Each live rows.now (λ h. part_of result ≡ extend h.n (view h) (part_of p) w) }
-{
-    let row = rows[w];
-    let old = p.near;
-    let mut set = with(p.set, w);
-    let mut near = old;
-    let mut left = p.set;
-    while left != 0 {
-        let v = lowest(left);
-        let s = fit[v];
-        let u = lowest(meet(s, row));
-        set = with(set, u);
-        let ys = with(old[v], w);
-        tie(&mut near, u, ys);
-        left = rest(left);
-    }
-    Sub {
-        set: set,
-        near: near,
+    while !left.is_empty() {
+        let v = left.lowest();
+        single.less(lack.once.meet(S::row(rows, v))).put(fit, v);
+        left = left.rest();
     }
 }
 
-// The bound from the clique c and W of the first round, or a bound on the way to it that is as great as is enough, by rounds on H.
-pub fn climb(live: u64, rows: &[u64], c: u64, ws: u64, enough: usize) -> usize
-    requires holds { Holds live rows.now }
-    requires each { Each live rows.now (λ h. IsSetOf (clique h.n (view h)) c) }
-    requires each_2 { Each live rows.now (λ h. (x : ℕ) → has ws x ≡ of_w_lem h.n (view h) (every_edge (has c)) x) }
-    requires fact { ws ≡ 0 → ⊥ }
-    requires c_bound { size_of 64 c < size_of 64 live }
-    ensures { Each live rows.now (λ h. Climbs (mycielskian h.n (view h)) enough result) }
+// The vertices of H after a round with w of W, where `fit` has S(v): for each v of the old H the lowest member of S(v) that is adjacent to w comes in,
+// tied to w and to v's old H-neighbours.
+pub fn extended<S: Bits>(
+    live: S,
+    rows: &[u64],
+    set: S,
+    old: &[u64],
+    near: &mut [u64],
+    w: usize,
+    fit: &[u64],
+) -> S
+    requires rows_len { length rows.now ≡ S.lent }
+    requires old_len { (length old.now ≡ S.lent) × (length fit.now ≡ S.lent) }
+    requires near_value { near.old ≡ old.now }
+    requires holds { HoldsAt S.cap (S.as_num live) (S.as_rows rows.now) }
+    requires among { Among (S.as_num live) (sub (S.as_num set) (S.as_rows old.now)) }
+    requires w_bound { w < S.cap }
+    requires each { EachAt S.cap (S.as_num live) (S.as_rows rows.now) (λ h. T (of_w_lem h.n (view h) (part_of (sub (S.as_num set) (S.as_rows old.now))) w)) }
+    requires each_2 { EachAt S.cap (S.as_num live) (S.as_rows rows.now) (λ h. Serves h.n (view h) (sub (S.as_num set) (S.as_rows old.now)) (S.as_rows fit.now)) }
+    ensures near_len { length near.new ≡ S.lent }
+    ensures round { EachAt S.cap (S.as_num live) (S.as_rows rows.now) (λ h. part_of (sub (S.as_num result) (S.as_rows near.new)) ≡ extend h.n (view h) (part_of (sub (S.as_num set) (S.as_rows old.now))) w) }
 {
-    let all = size(live);
-    let mut b = size(c) + 1;
-    let fit = first_servings(live, rows, c);
-    let mut p = extended(live, rows, whole(c), lowest(ws), &fit);
+    let row = S::row(rows, w);
+    let mut next = set.with(w);
+    let mut left = set;
+    'members: while !left.is_empty() {
+        let v = left.lowest();
+        let s = S::row(fit, v);
+        let u = s.meet(row).lowest();
+        next = next.with(u);
+        let ys = S::row(old, v).with(w);
+        tie(near, u, ys);
+        left = left.rest();
+    }
+    next
+}
+
+// The bound from the clique c and W of the first round, or a bound on the way to it that is as great as is enough, by rounds on H. Rows are N numbers.
+pub fn climb<S: Bits, const N: usize>(live: S, rows: &[u64], c: S, ws: S, enough: usize) -> usize
+    requires room { N ≡ S.lent }
+    requires rows_len { length rows.now ≡ S.lent }
+    requires holds { HoldsAt S.cap (S.as_num live) (S.as_rows rows.now) }
+    requires each { EachAt S.cap (S.as_num live) (S.as_rows rows.now) (λ h. IsSetOf (clique h.n (view h)) (S.as_num c)) }
+    requires each_2 { EachAt S.cap (S.as_num live) (S.as_rows rows.now) (λ h. (x : ℕ) → has (S.as_num ws) x ≡ of_w_lem h.n (view h) (every_edge (has (S.as_num c))) x) }
+    requires fact { S.as_num ws ≡ 0 → ⊥ }
+    requires c_bound { size_of S.cap (S.as_num c) < size_of S.cap (S.as_num live) }
+    ensures { EachAt S.cap (S.as_num live) (S.as_rows rows.now) (λ h. Climbs (mycielskian h.n (view h)) enough result) }
+{
+    let all = live.size();
+    let mut b = c.size() + 1;
+    let mut near = [0u64; N];
+    whole(c, &mut near);
+    let mut fit = [0u64; N];
+    first_servings(live, rows, c, &mut fit);
+    let old = near;
+    let mut set = extended(live, rows, c, &old, &mut near, ws.lowest(), &fit);
     while b < enough {
-        if all <= size(p.set) {
+        if all <= set.size() {
             return b;
         }
-        let ws = witnesses(live, rows, p.set, &p.near);
-        if ws == 0 {
+        let ws = witnesses(live, rows, set, &near);
+        if ws.is_empty() {
             return b;
         }
         if enough <= b + 1 {
             return b + 1;
         }
-        let fit = servings(live, rows, p.set, &p.near);
-        p = extended(live, rows, p, lowest(ws), &fit);
+        servings(live, rows, set, &near, &mut fit);
+        let old = near;
+        set = extended(live, rows, set, &old, &mut near, ws.lowest(), &fit);
         b = b + 1;
     }
     b
 }
 
 // The bound, or a bound on the way to it that is as great as is enough. Where the clique and one round tell, H is not made.
-pub fn bound_among(live: u64, rows: &[u64], enough: usize) -> usize
-    requires { Holds live rows.now }
-    ensures { Each live rows.now (λ h. Climbs (mycielskian h.n (view h)) enough result) }
+pub fn bound_among<S: Bits, const N: usize>(live: S, rows: &[u64], enough: usize) -> usize
+    requires room { N ≡ S.lent }
+    requires rows_len { length rows.now ≡ S.lent }
+    requires holds { HoldsAt S.cap (S.as_num live) (S.as_rows rows.now) }
+    ensures { EachAt S.cap (S.as_num live) (S.as_rows rows.now) (λ h. Climbs (mycielskian h.n (view h)) enough result) }
 {
     let c = clique_among(live, rows, enough);
-    let b = size(c);
+    let b = c.size();
     if enough <= b {
         return b;
     }
-    if size(live) <= b {
+    if live.size() <= b {
         return b;
     }
     let ws = first_witnesses(live, rows, c);
-    if ws == 0 {
+    if ws.is_empty() {
         return b;
     }
     if enough <= b + 1 {
         return b + 1;
     }
-    climb(live, rows, c, ws, enough)
+    climb::<S, N>(live, rows, c, ws, enough)
 }
 
 // The same of a node.
@@ -285,5 +294,5 @@ pub fn bound_up_to(h: Node, enough: usize) -> usize
     requires { Held h }
     ensures { Climbs (mycielskian h.n (view h)) enough result }
 {
-    bound_among(h.live, &h.rows, enough)
+    bound_among::<u64, 64>(h.live, &h.rows, enough)
 }

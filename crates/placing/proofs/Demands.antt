@@ -12,7 +12,10 @@ use Prim.Native.Nat.{ℕ, ◌≤◌, ◌<◌}
 use native.Mathlib.Omega.{arith}
 use lib.Dec.{T}
 use lib.ListN.{length, take, drop}
+use Rattle.std.specs.Prelude.{Result, Ok, Err}
 use Rattle.refusals.specs.Table.{accepted}
+use Rattle.refusals.specs.declared.Unsolved.{Unsolved}
+use Rattle.refusals.specs.declared.Unsolved.TheVariants.{Budget}
 use Rattle.clashes.specs.Matrix.{matrix, Valid}
 use Rattle.clashes.specs.Colouring.{Chromatic}
 use Rattle.clashes.specs.Divisions.{groups, Division, clash_free}
@@ -20,8 +23,7 @@ use Rattle.clashes.specs.Room.{OpenUpTo}
 use Rattle.clashes.proofs.Meaning.{chromatic_fewest, chromatic_unique}
 use Rattle.placing.specs.Search.{start, size, placing_search, nodes_from}
 use Rattle.placing.specs.Promise.{numbers, searched, PromisedUpTo, answer_up_to}
-use Rattle.placing.specs.declared.Answer.{Answer}
-use Rattle.placing.specs.declared.Answer.TheVariants.{Accepted, Budget}
+use Rattle.placing.specs.declared.Placing.{Placing}
 use Rattle.placing.proofs.Best as best
 use Rattle.placing.proofs.Counts as counts
 use Rattle.placing.proofs.PromiseLaws as laws
@@ -40,19 +42,19 @@ search_saves n clash = omega (arith, counts.search_most clash n [] (start n))
 
 module _ (most : ℕ) (rows before : List ℕ) (budget : ℕ) where
   -- One answer, and one state of the lent bytes.
-  pub one_answer : (a b : Answer) (after after' : List ℕ) → PromisedUpTo most rows before budget a after → PromisedUpTo most rows before budget b after'
+  pub one_answer : (a b : Result Placing Unsolved) (after after' : List ℕ) → PromisedUpTo most rows before budget a after → PromisedUpTo most rows before budget b after'
       → (a ≡ b) × (after ≡ after')
   one_answer = laws.promised_unique most rows before budget
 
   -- "Refusals: 1 to 5 and then 6": the answer is the one that this order gives (`answer_up_to`), each under its condition and no other, or accepted.
-  pub answered : (a : Answer) (after : List ℕ) → PromisedUpTo most rows before budget a after → a ≡ answer_up_to most rows before budget
+  pub answered : (a : Result Placing Unsolved) (after : List ℕ) → PromisedUpTo most rows before budget a after → a ≡ answer_up_to most rows before budget
   answered a after p = sym (laws.promised_answer most rows before budget a after p)
 
   -- A refused call writes nothing.
-  pub refused_kept : (a : Answer) (after : List ℕ) → PromisedUpTo most rows before budget a after → (numbers a).number ≢ accepted → after ≡ before
+  pub refused_kept : (a : Result Placing Unsolved) (after : List ℕ) → PromisedUpTo most rows before budget a after → (numbers a).number ≢ accepted → after ≡ before
   refused_kept = laws.refused_kept most rows before budget
 
-  module _ (k m : ℕ) (after : List ℕ) (p : PromisedUpTo most rows before budget (Accepted k m) after) where
+  module _ (k m : ℕ) (after : List ℕ) (p : PromisedUpTo most rows before budget (Ok (record { k = k; nodes = m })) after) where
     -- k is the chromatic number, as document 000 defines it.
     pub is_chromatic : Chromatic (length rows) (matrix rows) k
     is_chromatic = p.fewest
@@ -86,9 +88,9 @@ module _ (most : ℕ) (rows before : List ℕ) (budget : ℕ) where
 
   -- A budget is refused exactly when the search needs more: a valid list with room for its colours is accepted, with the described search's count,
   -- exactly where that is within the budget.
-  module _ (a : Answer) (after : List ℕ) (p : PromisedUpTo most rows before budget a after) (room : OpenUpTo most rows (length before)) where
-    pub accepted_within : (searched rows).nodes ≤ budget → a ≡ Accepted (size (searched rows)) (searched rows).nodes
+  module _ (a : Result Placing Unsolved) (after : List ℕ) (p : PromisedUpTo most rows before budget a after) (room : OpenUpTo most rows (length before)) where
+    pub accepted_within : (searched rows).nodes ≤ budget → a ≡ Ok (record { k = size (searched rows); nodes = (searched rows).nodes })
     accepted_within = laws.enough_accepted most rows before budget a after p room
 
-    pub refused_beyond : budget < (searched rows).nodes → a ≡ Budget budget
+    pub refused_beyond : budget < (searched rows).nodes → a ≡ Err (Budget budget)
     refused_beyond = laws.short_refused most rows before budget a after p room

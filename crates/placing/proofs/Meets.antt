@@ -1,6 +1,6 @@
 -- The search may start from the empty placing, and a search of the code that came to its end meets the promise. Assumes nothing.
-use mathlib.Core.Path.{◌≡◌, refl, sym, ap, ap₂, ◌∙◌, subst, subst₂}
-use mathlib.Core.Bool.{Bool, true, false, ◌&&◌}
+use mathlib.Core.Path.{◌≡◌, refl, sym, ap, ap₂, ◌∙◌, subst}
+use mathlib.Core.Bool.{Bool, ◌&&◌}
 use mathlib.Core.List.{List, [], ◌∷◌, ◌++◌}
 use Prim.Native.Nat.{ℕ, zero, suc}
 use native.Mathlib.Nat.{sub-zero}
@@ -9,6 +9,8 @@ use borrow.Author.Tests.{le-ltb}
 use lib.Dec.{T, eqb, eqb→eq}
 use lib.ListN.{length, take, drop, get_or}
 use lib.Seq.{take_at, drop_at}
+use Rattle.std.specs.Prelude.{Ok, Err}
+use Rattle.refusals.specs.declared.Unsolved.{Unsolved}
 use Rattle.sets.specs.Lists.{every}
 use Rattle.sets.specs.Set.{has}
 use Rattle.sets.proofs.TestLaws.{and_l, and_r}
@@ -19,11 +21,9 @@ use Rattle.clashes.specs.Divisions.{groups, Division, clash_free}
 use Rattle.clashes.specs.Room.{OpenUpTo}
 use Rattle.clashes.proofs.MatrixLaws.{sound_valid}
 use Rattle.placing.specs.Search.{State as Described, size, search}
-use Rattle.placing.specs.Going.{state_of, Starts, ReadyAt, due, Comes}
-use Rattle.placing.specs.Promise.{searched, PromisedUpTo, Told}
+use Rattle.placing.specs.Going.{state_of, Starts, ReadyAt, due, Comes, Exceeds}
+use Rattle.placing.specs.Promise.{searched, PromisedUpTo}
 use Rattle.placing.specs.declared.State.{State}
-use Rattle.placing.specs.declared.Answer.{Answer}
-use Rattle.placing.specs.declared.Answer.TheVariants.{Accepted, Budget}
 use Rattle.placing.proofs.Best.{placing_division, placing_free, placing_chromatic}
 
 -- a list of zeros alone
@@ -54,25 +54,24 @@ module _ (most : ℕ) (rows before : List ℕ) (budget : ℕ) (opened : OpenUpTo
           ∙ sym (ap (λ (b : Bool). b && eqb (get_or c y zero) j) (le-ltb y 0 (omega arith)));
     };
     fair = i.fair;
-    going = i.going;
   }
 
   valid : Valid n (matrix rows)
   valid = sound_valid rows opened.sound
 
-  module _ (c : List ℕ) (s₀ s : State) (b : Starts n budget s₀) (came : Comes n s₀ s (due rows 0 c s₀)) where
+  module _ (c : List ℕ) (s₀ : State) (b : Starts n budget s₀) where
     due_is : due rows 0 c s₀ ≡ w
     unfolding due
     due_is = ap₂ (λ (k : ℕ) (d : Described). search (matrix rows) k [] d) (sub-zero n) b.is
 
-    comes : Comes n s₀ s w
-    comes = subst (Comes n s₀ s) due_is came
+    pub promised_spent : {e : Unsolved} → Exceeds s₀ (due rows 0 c s₀) e → PromisedUpTo most rows before budget (Err e) before
+    promised_spent x =
+        subst (λ (e : Unsolved). PromisedUpTo most rows before budget (Err e) before) (sym x.told)
+        (record { opened = opened; all = b.budget; more = omega (arith, x.more, b.budget, ap (λ (d : Described). d.nodes) due_is) }, refl)
 
-    spent : s.out ≡ true → PromisedUpTo most rows before budget (Budget s.budget) before
-    spent o = (record { opened = opened; all = comes.budget ∙ b.budget; more = omega (arith, comes.spent o, b.budget) }, refl)
-
-    accepts : s.out ≡ false → PromisedUpTo most rows before budget (Accepted s.k s.nodes) (take n s.best ++ drop n before)
-    accepts o = record {
+    pub promised_done : {s : State} → Comes n s₀ s (due rows 0 c s₀)
+        → PromisedUpTo most rows before budget (Ok (record { k = s.k; nodes = s.nodes })) (take n s.best ++ drop n before)
+    promised_done {s} comes = record {
       opened = opened;
       fewest = subst (Chromatic n (matrix rows)) k_is (placing_chromatic n (matrix rows) valid);
       division = subst (Division n) (sym taken) (placing_division n (matrix rows) valid);
@@ -85,7 +84,7 @@ module _ (most : ℕ) (rows before : List ℕ) (budget : ℕ) (opened : OpenUpTo
     }
       where
         is : state_of n s ≡ w
-        is = comes.done o
+        is = comes.is ∙ due_is
 
         best_is : take n s.best ≡ w.best
         best_is = ap (λ (d : Described). d.best) is
@@ -98,10 +97,3 @@ module _ (most : ℕ) (rows before : List ℕ) (budget : ℕ) (opened : OpenUpTo
 
         k_is : size w ≡ s.k
         k_is = ap (groups 0) (sym best_is) ∙ sym comes.fair.size
-
-    pub promised_told : (a : Answer) (after : List ℕ) → Told n s before a after → PromisedUpTo most rows before budget a after
-    promised_told a after t = go s.out refl
-      where
-        go : (o : Bool) → s.out ≡ o → PromisedUpTo most rows before budget a after
-        go true e = let q = t.spent e in subst₂ (PromisedUpTo most rows before budget) (sym q.0) (sym q.1) (spent e)
-        go false e = let q = t.done e in subst₂ (PromisedUpTo most rows before budget) (sym q.0) (sym q.1) (accepts e)

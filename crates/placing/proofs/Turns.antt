@@ -1,8 +1,8 @@
 -- The turns of the code's loop over the groups, each against the described search: a group is passed over, or the entry is put into it and the node
 -- entered, after which the sets are restored. Assumes nothing.
-use mathlib.Core.Path.{◌≡◌, refl, sym, ap, ap₂, ◌∙◌}
+use mathlib.Core.Path.{◌≡◌, sym, ap, ap₂, ◌∙◌}
 use mathlib.Core.Logic.{◌≢◌}
-use mathlib.Core.Bool.{Bool, true, false}
+use mathlib.Core.Bool.{Bool, false}
 use mathlib.Core.List.{List}
 use Prim.Native.Nat.{ℕ, zero, suc, ◌+◌, ◌-◌, ◌≤◌, ◌<◌}
 use native.Mathlib.Numerals.{add-one}
@@ -10,15 +10,16 @@ use native.Mathlib.Omega.{arith}
 use lib.Dec.{T}
 use lib.ListN.{length, take, set, get_or, length-set}
 use lib.Seq.{take-set-le, set-set, set-get_or, take-take}
+use Rattle.refusals.specs.declared.Unsolved.{Unsolved}
+use Rattle.refusals.specs.declared.Unsolved.TheVariants.{Budget}
 use Rattle.sets.specs.Set.{IsWith, IsMeet}
 use Rattle.clashes.specs.Matrix.{matrix}
 use Rattle.placing.specs.Search.{State as Described, admits, put, search}
-use Rattle.placing.specs.Going.{state_of, Fair, HoldsAt, ReadyAt, due, Comes, Kept, more_of}
+use Rattle.placing.specs.Going.{state_of, Fair, HoldsAt, ReadyAt, due, Comes, Kept, Exceeds, more_of}
 use Rattle.placing.specs.declared.State.{State}
 use Rattle.placing.proofs.Steps.{before, before_in, before_out}
 use Rattle.placing.proofs.Counts.{before_grows}
 use Rattle.placing.proofs.Holding.{holds_kept, groups_few, met_in_none, met_in_some, put_places, holds_put}
-use Rattle.placing.proofs.Entering.{comes_done, comes_spent}
 
 -- what the turns before group j come to, from t₀ at the node that is held
 abbrev pub came : List ℕ → ℕ → List ℕ → State → ℕ → Described
@@ -33,20 +34,6 @@ pub record Turn (cap : ℕ) (rows : List ℕ) (here m : ℕ) (sets₀ c₀ : Lis
   pub is : state_of (length rows) t ≡ came rows here c₀ t₀ j
   pub fair : Fair (length rows) t
   pub budget : t.budget ≡ t₀.budget
-  pub going : t.out ≡ false
-
-pub first_turn : {cap : ℕ} {rows : List ℕ} {here m : ℕ} {sets c : List ℕ} {t : State} → ReadyAt cap rows here m sets c t → here < length rows
-    → Turn cap rows here m sets c t sets c t 0
-first_turn r l = record {
-  first = r;
-  more = l;
-  most = omega arith;
-  kept = record { sets_same = refl; places_same = refl; places_long = refl };
-  is = refl;
-  fair = r.fair;
-  budget = refl;
-  going = r.going;
-}
 
 module _ {cap : ℕ} {rows : List ℕ} {here m : ℕ} {sets₀ c₀ : List ℕ} {t₀ : State} {sets c : List ℕ} {t : State} {j : ℕ}
     (u : Turn cap rows here m sets₀ c₀ t₀ sets c t j) where
@@ -72,7 +59,7 @@ module _ {cap : ℕ} {rows : List ℕ} {here m : ℕ} {sets₀ c₀ : List ℕ} 
   pub last_turn : m < j → Comes n t₀ t (came rows here c₀ t₀ (suc m)) × Kept here sets₀ c₀ sets c
   last_turn b =
       let e : j ≡ suc m = omega (arith, u.most) in
-      (comes_done n t₀ t (came rows here c₀ t₀ (suc m)) u.going (u.is ∙ ap (came rows here c₀ t₀) e) u.fair u.budget, u.kept)
+      (record { is = u.is ∙ ap (came rows here c₀ t₀) e; fair = u.fair; budget = u.budget }, u.kept)
 
   pub set_inside : j ≤ m → j < cap
   set_inside low = omega (arith, groups_inside)
@@ -88,7 +75,6 @@ module _ {cap : ℕ} {rows : List ℕ} {here m : ℕ} {sets₀ c₀ : List ℕ} 
       is = u.is ∙ sym (before_out clash left (take here c₀) (state_of n t₀) j closed) ∙ ap (came rows here c₀ t₀) (sym (add-one j));
       fair = u.fair;
       budget = u.budget;
-      going = u.going;
     }
       where
         closed : admits clash (take here c₀) j ≡ false
@@ -113,7 +99,6 @@ module _ {cap : ℕ} {rows : List ℕ} {here m : ℕ} {sets₀ c₀ : List ℕ} 
         below = omega (arith, u.more);
         holds = holds_put holds_now entry_inside j (set_inside low) g' joins low;
         fair = u.fair;
-        going = u.going;
       }
 
       admitted : T (admits clash (take here c) j)
@@ -128,39 +113,33 @@ module _ {cap : ℕ} {rows : List ℕ} {here m : ℕ} {sets₀ c₀ : List ℕ} 
           ∙ ap (search clash left (put (take here c₀) j)) u.is
           ∙ sym (before_in clash left (take here c₀) (state_of n t₀) j (rw (← u.kept.places_same) admitted))
 
-      module _ {r : State} {sets'' c'' : List ℕ} (comes : Comes n t r (due rows (here + 1) c' t)) (kept : Kept (here + 1) sets' c' sets'' c'') where
-        -- set j is as it was before the turn
-        restored : Kept here sets₀ c₀ (set sets'' j g) c''
-        restored = record {
+      -- the budget is spent there: then it is not enough for all turns
+      pub turn_spent : {e : Unsolved} → Exceeds t (due rows (here + 1) c' t) e → Exceeds t₀ (came rows here c₀ t₀ (suc m)) e
+      turn_spent x = record {
+        told = x.told ∙ ap Budget u.budget;
+        more = omega (
+          arith,
+          x.more,
+          u.budget,
+          ap (λ (d : Described). d.nodes) put_due,
+          before_grows clash left (take here c₀) (state_of n t₀) (suc j) (suc m) (omega arith),
+        );
+      }
+
+      -- or the next group's turn begins
+      pub turn_done : {r : State} {sets'' c'' : List ℕ} → Comes n t r (due rows (here + 1) c' t) → Kept (here + 1) sets' c' sets'' c''
+          → Turn cap rows here m sets₀ c₀ t₀ (set sets'' j g) c'' r (j + 1)
+      turn_done {r} {sets''} {c''} comes kept = record {
+        first = u.first;
+        more = u.more;
+        most = omega arith;
+        kept = record {
           sets_same = ap (λ (l : List ℕ). set l j g) kept.sets_same ∙ set-set sets j g' g ∙ set-get_or sets j zero ∙ u.kept.sets_same;
           places_same = sym (take-take here (here + 1) c'' (omega arith)) ∙ ap (take here) kept.places_same ∙ take-take here (here + 1) c' (omega arith)
               ∙ take-set-le here c here j (omega arith) ∙ u.kept.places_same;
           places_long = kept.places_long ∙ length-set c here j ∙ u.kept.places_long;
-        }
-
-        -- the budget is spent there: then it is not enough for all turns
-        pub turn_spent : r.out ≡ true → Comes n t₀ r (came rows here c₀ t₀ (suc m)) × Kept here sets₀ c₀ (set sets'' j g) c''
-        turn_spent o = (comes_spent n t₀ r (came rows here c₀ t₀ (suc m)) o over comes.fair (comes.budget ∙ u.budget), restored)
-          where
-            over : t₀.budget < (came rows here c₀ t₀ (suc m)).nodes
-            over =
-                omega (
-                  arith,
-                  comes.spent o,
-                  u.budget,
-                  ap (λ (d : Described). d.nodes) put_due,
-                  before_grows clash left (take here c₀) (state_of n t₀) (suc j) (suc m) (omega arith),
-                )
-
-        -- or the next group's turn begins
-        pub turn_done : r.out ≡ false → Turn cap rows here m sets₀ c₀ t₀ (set sets'' j g) c'' r (j + 1)
-        turn_done o = record {
-          first = u.first;
-          more = u.more;
-          most = omega arith;
-          kept = restored;
-          is = comes.done o ∙ put_due ∙ ap (came rows here c₀ t₀) (sym (add-one j));
-          fair = comes.fair;
-          budget = comes.budget ∙ u.budget;
-          going = o;
-        }
+        };
+        is = comes.is ∙ put_due ∙ ap (came rows here c₀ t₀) (sym (add-one j));
+        fair = comes.fair;
+        budget = comes.budget ∙ u.budget;
+      }

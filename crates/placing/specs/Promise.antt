@@ -8,22 +8,21 @@
 --   Met v after        : what the numbers v say is so, and `after` are the bytes
 --   Promised a after   : the same of an answer's numbers
 --   answer, lent       : the answer and the bytes, computed
---   Told n s           : what the code's last step promises: the answer of a search that came to s, and the bytes
 --
 -- Each is stated for lists of up to `most` entries (`PromisedUpTo most`, ..) and is then named for today's 64. Assumes nothing.
-use Rattle.std.specs.Prelude.{◌≡◌, true, false, cond, List, ◌++◌, ℕ, ◌≤◌, ◌<◌, T, leb, ltb, eqb, length, take, drop}
+use Rattle.std.specs.Prelude.{◌≡◌, cond, Result, Ok, Err, List, ◌++◌, ℕ, ◌≤◌, ◌<◌, T, leb, ltb, eqb, length, take, drop}
 use Rattle.refusals.specs.Table.{Told as Table, told, accepted, number_of, If}
 use Rattle.refusals.specs.declared.Refusal.TheVariants as refusal
+use Rattle.refusals.specs.declared.Invalid.{Invalid}
+use Rattle.refusals.specs.declared.Invalid.TheVariants.{Many, Stray, Itself, OneSided}
+use Rattle.refusals.specs.declared.Unsolved.{Unsolved}
+use Rattle.refusals.specs.declared.Unsolved.TheVariants.{OfRows, Short, Budget}
 use Rattle.clashes.specs.Matrix.{matrix, judge_up_to}
 use Rattle.clashes.specs.Colouring.{Chromatic}
 use Rattle.clashes.specs.Divisions.{groups, Division, clash_free}
 use Rattle.clashes.specs.Room.{OpenUpTo, RefusedUpTo}
-use Rattle.clashes.specs.declared.Verdict.{Verdict}
-use Rattle.clashes.specs.declared.Verdict.TheVariants.{Valid as valid, Many as many, Stray as stray, Itself as itself, OneSided as one_sided}
 use Rattle.placing.specs.Search.{State as Described, size, placing_search}
-use Rattle.placing.specs.declared.Answer.{Answer}
-use Rattle.placing.specs.declared.Answer.TheVariants.{Accepted, Many, Stray, Itself, OneSided, Short, Budget}
-use Rattle.placing.specs.declared.State.{State}
+use Rattle.placing.specs.declared.Placing.{Placing}
 
 pub record Numbers : Type 0 where
   pub number : ℕ
@@ -35,14 +34,14 @@ pub record Numbers : Type 0 where
 abbrev pub refused_as : Table → Numbers
 refused_as t = record { number = t.number; k = 0; nodes = t.nodes; row = t.row }
 
-abbrev pub numbers : Answer → Numbers
-numbers (Accepted k m) = record { number = accepted; k = k; nodes = m; row = 0 }
-numbers Many = refused_as (told refusal.Many 0)
-numbers (Stray i) = refused_as (told refusal.Stray i)
-numbers (Itself i) = refused_as (told refusal.Itself i)
-numbers (OneSided i) = refused_as (told refusal.OneSided i)
-numbers Short = refused_as (told refusal.Short 0)
-numbers (Budget m) = refused_as (told refusal.Budget m)
+abbrev pub numbers : Result Placing Unsolved → Numbers
+numbers (Ok p) = record { number = accepted; k = p.k; nodes = p.nodes; row = 0 }
+numbers (Err (OfRows Many)) = refused_as (told refusal.Many 0)
+numbers (Err (OfRows (Stray i))) = refused_as (told refusal.Stray i)
+numbers (Err (OfRows (Itself i))) = refused_as (told refusal.Itself i)
+numbers (Err (OfRows (OneSided i))) = refused_as (told refusal.OneSided i)
+numbers (Err Short) = refused_as (told refusal.Short 0)
+numbers (Err (Budget m)) = refused_as (told refusal.Budget m)
 
 abbrev pub searched : List ℕ → Described
 searched rows = placing_search (length rows) (matrix rows)
@@ -72,40 +71,28 @@ module _ (most : ℕ) (rows before : List ℕ) (budget : ℕ) where
       (RefusedUpTo most rows (length before) v.number v.row))
       × (after ≡ before))
 
-  abbrev pub PromisedUpTo : Answer → List ℕ → Type 0
+  abbrev pub PromisedUpTo : Result Placing Unsolved → List ℕ → Type 0
   PromisedUpTo a after = MetUpTo (numbers a) after
 
   -- ---- computed
 
-  abbrev pub ended : Described → Answer
-  ended w = cond (leb w.nodes budget) (Accepted (size w) w.nodes) (Budget budget)
+  abbrev pub ended : Described → Result Placing Unsolved
+  ended w = cond (leb w.nodes budget) (Ok (record { k = size w; nodes = w.nodes })) (Err (Budget budget))
 
-  abbrev pub lent : Answer → List ℕ
-  lent (Accepted k m) = (searched rows).best ++ drop (length rows) before
-  lent Many = before
-  lent (Stray i) = before
-  lent (Itself i) = before
-  lent (OneSided i) = before
-  lent Short = before
-  lent (Budget m) = before
+  abbrev pub lent : Result Placing Unsolved → List ℕ
+  lent (Ok p) = (searched rows).best ++ drop (length rows) before
+  lent (Err e) = before
 
-abbrev pub refused : Verdict → Answer → Answer
-refused valid next = next
-refused many next = Many
-refused (stray i) next = Stray i
-refused (itself i) next = Itself i
-refused (one_sided i) next = OneSided i
+abbrev pub refused : Result Unit Invalid → Result Placing Unsolved → Result Placing Unsolved
+refused (Ok u) next = next
+refused (Err w) next = Err (OfRows w)
 
 -- in the order of document 02: 1 to 5, then 6
-abbrev pub answer_up_to : ℕ → List ℕ → List ℕ → ℕ → Answer
+abbrev pub answer_up_to : ℕ → List ℕ → List ℕ → ℕ → Result Placing Unsolved
 answer_up_to most rows before budget =
-    refused (judge_up_to most rows) (cond (ltb (length before) (length rows)) Short (ended most rows before budget (searched rows)))
+    refused (judge_up_to most rows) (cond (ltb (length before) (length rows)) (Err Short) (ended most rows before budget (searched rows)))
 
 -- ---- up to 64 entries
 
-abbrev pub Promised : List ℕ → List ℕ → ℕ → Answer → List ℕ → Type 0
+abbrev pub Promised : List ℕ → List ℕ → ℕ → Result Placing Unsolved → List ℕ → Type 0
 Promised rows before budget a after = PromisedUpTo 64 rows before budget a after
-
-pub record Told (n : ℕ) (s : State) (before : List ℕ) (a : Answer) (after : List ℕ) : Type 0 where
-  pub spent : s.out ≡ true → (a ≡ Budget s.budget) × (after ≡ before)
-  pub done : s.out ≡ false → (a ≡ Accepted s.k s.nodes) × (after ≡ take n s.best ++ drop n before)

@@ -11,21 +11,20 @@ ghost use Rattle.removing.specs.Words.{Entries, Listed, Sharing, goes_of, Shrank
 
 use sets::{below, less, lowest, meet, rest, size, without};
 
-// Who goes next, if anyone does, and the other entry that is noted: itself, where it goes by the second rule.
+// Who goes, and the other entry that is noted: itself, where it goes by the second rule.
 #[derive(Clone, Copy)]
-struct Goes {
-    pub found: bool,
+pub struct Goes {
     pub who: usize,
     pub other: usize,
 }
 
-// A shrunk list: who is present; how many went, who, and the other entry that was noted with each, in order; whether one went by the second rule.
+// A shrunk list: who is present; how many went, and who, in order; whether one went by the second rule. As there is no heap, those who went stand in an
+// array that has room for all entries.
 #[derive(Clone, Copy)]
 pub struct Shrunk {
     pub present: u64,
     pub gone: usize,
-    pub who: [u8; 64],
-    pub other: [u8; 64],
+    pub went: [Goes; 64],
     pub few: bool,
 }
 
@@ -48,16 +47,11 @@ fn sharing(rows: &[u64], near: u64, among: u64) -> u64
 }
 
 // The lowest present entry whose clashes are all clashes of another, and the lowest such other.
-fn first_covered(rows: &[u64], present: u64) -> Goes
+fn first_covered(rows: &[u64], present: u64) -> Option<Goes>
     requires { Listed rows.now present }
     ensures { goes_of result ≡ choose (length rows.now) (matrix rows.now) (member present)
         (lowest_of (is_covered (length rows.now) (matrix rows.now) (member present)) (length rows.now)) none }
 {
-    let mut found = Goes {
-        found: false,
-        who: 0,
-        other: 0,
-    };
     let mut left = present;
     while left != 0 {
         let v = lowest(left);
@@ -66,30 +60,23 @@ fn first_covered(rows: &[u64], present: u64) -> Goes
         let near = meet(present, row); // clashes with present ones
         let others = sharing(rows, near, less(without(present, v), near)); // who clashes with v does not clash with itself
         if others != 0 {
-            let u = lowest(others);
-            found = Goes {
-                found: true,
+            // v is the lowest that is covered
+            return Some(Goes {
                 who: v,
-                other: u,
-            };
-            left = 0; // it is the lowest that is covered
+                other: lowest(others),
+            });
         }
     }
-    found
+    None
 }
 
 // The lowest present entry with fewer clashes than `bound`.
-fn first_few(rows: &[u64], present: u64, bound: usize) -> Goes
+fn first_few(rows: &[u64], present: u64, bound: usize) -> Option<Goes>
     requires rows_len_bound { length rows.now ≤ 64 }
     requires listed { Listed rows.now present }
     ensures { goes_of result ≡ choose (length rows.now) (matrix rows.now) (member present) none
         (lowest_of (has_few (length rows.now) (matrix rows.now) (member present) bound) (length rows.now)) }
 {
-    let mut found = Goes {
-        found: false,
-        who: 0,
-        other: 0,
-    };
     let mut left = present;
     while left != 0 {
         let v = lowest(left);
@@ -97,38 +84,19 @@ fn first_few(rows: &[u64], present: u64, bound: usize) -> Goes
         let row = rows[v];
         let clashes = size(meet(present, row));
         if clashes < bound {
-            found = Goes {
-                found: true,
-                who: v,
-                other: v,
-            };
-            left = 0; // it is the lowest that has few
+            return Some(Goes { who: v, other: v }); // v is the lowest that has few
         }
     }
-    found
+    None
 }
 
 // Who goes next: by the first rule, or, where nobody meets it, by the second.
-fn next(rows: &[u64], present: u64, bound: usize) -> Goes
+fn next(rows: &[u64], present: u64, bound: usize) -> Option<Goes>
     requires rows_len_bound { length rows.now ≤ 64 }
     requires listed { Listed rows.now present }
     ensures { goes_of result ≡ next_of (length rows.now) (matrix rows.now) (member present) bound }
 {
-    let first = first_covered(rows, present);
-    if first.found {
-        return first;
-    }
-    first_few(rows, present, bound)
-}
-
-// Has the second rule been used: before, or now that v is noted with u?
-fn second(few: bool, v: usize, u: usize) -> bool
-    ensures { result ≡ (few || eqb v u) }
-{
-    if v == u {
-        return true;
-    }
-    few
+    first_covered(rows, present).or_else(|| first_few(rows, present, bound))
 }
 
 // Entries go until neither rule applies.
@@ -136,27 +104,21 @@ pub fn shrink(rows: &[u64], bound: usize) -> Shrunk
     requires { Sound rows.now }
     ensures { Shrank bound rows.now result }
 {
-    let mut who: [u8; 64] = [0; 64];
-    let mut other: [u8; 64] = [0; 64];
-    let mut few = false;
-    let mut gone: usize = 0;
     let mut present = below(rows.len());
-    let mut goes = next(rows, present, bound);
-    while goes.found {
-        let v = goes.who;
-        let u = goes.other;
-        who[gone] = v as u8;
-        other[gone] = u as u8;
-        few = second(few, v, u);
+    let mut went = [Goes { who: 0, other: 0 }; 64];
+    let mut gone = 0;
+    let mut few = false;
+    // L is kept
+    while let Some(goes) = next(rows, present, bound) {
+        went[gone] = goes;
         gone += 1;
-        present = without(present, v);
-        goes = next(rows, present, bound); // L is kept
+        few |= goes.who == goes.other;
+        present = without(present, goes.who);
     }
     Shrunk {
-        present: present,
-        gone: gone,
-        who: who,
-        other: other,
-        few: few,
+        present,
+        gone,
+        went,
+        few,
     }
 }

@@ -7,8 +7,7 @@ use native.Mathlib.Decide.{ℕ_discrete}
 use native.Mathlib.Omega.{arith}
 use borrow.Author.Tests.{eq-eqb, ne_eqb}
 use lib.Dec.{T, eqb, ltb→lt}
-use lib.ListN.{length, set, length-set}
-use Rattle.sets.specs.Set.{IsWith}
+use lib.ListN.{length, get_or}
 use Rattle.sets.proofs.TestLaws.{and_true}
 use Rattle.sets.proofs.ListLaws.{table_suc}
 use Rattle.clashes.specs.Matrix.{matrix}
@@ -18,11 +17,12 @@ use Rattle.shrink.specs.Back.{Seating, into, home, put, back}
 use Rattle.shrink.specs.Steps.{Allowed, Steps, Fits}
 use Rattle.shrink.proofs.RuleLaws.{without_in, without_other, left_in, left_more, allowed_entry}
 use Rattle.shrink.proofs.BackLaws.{back_fits, back_none, back_more}
-use Rattle.removing.specs.Words.{removal, removed}
-use Rattle.restoring.specs.Seats.{seating_of, Sets, Seat, Returning, Returned}
+use Rattle.removing.specs.Words.{removal, removal_of, nobody, removed}
+use Rattle.removing.specs.declared.Goes.{Goes}
+use Rattle.restoring.specs.Seats.{seating_of, Sets, Joined, Seat, Returning, Returned}
 use Rattle.restoring.specs.declared.Seats.{Seats}
 use Rattle.removing.proofs.ShrinkLaws.{removal_entry}
-use Rattle.restoring.proofs.SeatLaws.{sets_into, home_is}
+use Rattle.restoring.proofs.SeatLaws.{sets_joined, group_long, sets_long, home_is}
 
 -- ---- removals in two parts
 
@@ -47,20 +47,20 @@ put_seat n clash p s v u = go (eqb v u)
     go false = refl
 
 -- who is present when the first i of those who went have gone
-abbrev pub here_at : List ℕ → List ℕ → List ℕ → ℕ → ℕ → Bool
-here_at rows who other i = left (everyone (length rows)) (removed who other i)
+abbrev pub here_at : List ℕ → List Goes → ℕ → ℕ → Bool
+here_at rows went i = left (everyone (length rows)) (removed went i)
 
 -- all but the first i are back
-pub record Returns (cap : ℕ) (rows who other : List ℕ) (all : ℕ) (h : Seats) (i : ℕ) (group sets : List ℕ) (many : ℕ) : Type 0 where
+pub record Returns (cap : ℕ) (rows : List ℕ) (went : List Goes) (all : ℕ) (h : Seats) (i : ℕ) (now : Seats) : Type 0 where
   pub behind : List Removal
-  pub split : removed who other i ++ behind ≡ removed who other all
-  pub is : ◌≡◌ {A = Seating} (record { many = many; group = group }) (back (length rows) (matrix rows) (here_at rows who other i) behind (seating_of h))
-  pub held : Sets cap (here_at rows who other i) group sets
-  pub room : many + i ≤ length rows
-  pub long_group : length group ≡ cap
-  pub long_sets : length sets ≡ cap
+  pub split : removed went i ++ behind ≡ removed went all
+  pub is : seating_of now ≡ back (length rows) (matrix rows) (here_at rows went i) behind (seating_of h)
+  pub held : Sets cap (here_at rows went i) now.group now.sets
+  pub room : now.many + i ≤ length rows
+  pub long_group : length now.group ≡ cap
+  pub long_sets : length now.sets ≡ cap
 
-module _ (cap : ℕ) (rows who other : List ℕ) (all : ℕ) (h : Seats) (g : Returning cap rows who other all h) where
+module _ (cap : ℕ) (rows : List ℕ) (went : List Goes) (all : ℕ) (h : Seats) (g : Returning cap rows went all h) where
   abbrev n : ℕ
   n = length rows
 
@@ -68,12 +68,12 @@ module _ (cap : ℕ) (rows who other : List ℕ) (all : ℕ) (h : Seats) (g : Re
   clash = matrix rows
 
   abbrev gone : ℕ → List Removal
-  gone i = removed who other i
+  gone i = removed went i
 
   abbrev here : ℕ → ℕ → Bool
-  here i = here_at rows who other i
+  here i = here_at rows went i
 
-  pub returns_start : Returns cap rows who other all h all h.group h.sets h.many
+  pub returns_start : Returns cap rows went all h all h
   returns_start = record {
     behind = [];
     split = append-nil (gone all);
@@ -84,29 +84,31 @@ module _ (cap : ℕ) (rows who other : List ℕ) (all : ℕ) (h : Seats) (g : Re
     long_sets = g.long_sets;
   }
 
-  pub returns_end : (group sets : List ℕ) (many : ℕ) → Returns cap rows who other all h 0 group sets many
-      → Returned cap rows who other all h (record { many = many; group = group; sets = sets })
-  returns_end group sets many k = record {
+  pub returns_end : (now : Seats) → Returns cap rows went all h 0 now → Returned cap rows went all h now
+  returns_end now k = record {
     is = k.is ∙ ap (λ (rs : List Removal). back n clash (everyone n) rs (seating_of h)) k.split;
     sets = k.held;
     room = omega (arith, k.room);
   }
 
-  module _ (i : ℕ) (group sets : List ℕ) (many : ℕ) (k : Returns cap rows who other all h (suc i) group sets many) where
+  module _ (i : ℕ) (now : Seats) (k : Returns cap rows went all h (suc i) now) where
+    abbrev w : Goes
+    w = get_or went i nobody
+
     abbrev v : ℕ
-    v = at who i
+    v = w.who
 
     abbrev u : ℕ
-    u = at other i
+    u = w.other
 
     abbrev r : Removal
-    r = removal v u
+    r = removal_of w
 
     abbrev cur : Seating
-    cur = record { many = many; group = group }
+    cur = seating_of now
 
     one_more : gone (suc i) ≡ gone i ++ r ∷ []
-    one_more = table_suc (λ j. removal (at who j) (at other j)) i
+    one_more = table_suc (λ j. removal_of (get_or went j nobody)) i
 
     here_without : ◌≡◌ {A = ℕ → Bool} (here (suc i)) (without v (here i))
     here_without =
@@ -155,32 +157,33 @@ module _ (cap : ℕ) (rows who other : List ℕ) (all : ℕ) (h : Seats) (g : Re
     entries : (x : ℕ) → T (here (suc i) x) → x < n
     entries x t = ltb→lt x n (left_in (everyone n) (gone (suc i)) x t)
 
-    many_few : many ≤ cap
+    many_few : now.many ≤ cap
     many_few = omega (arith, k.room, g.few)
 
     -- the group that is found is the one that v is put into
-    pub seat_is : (j : ℕ) → Seat rows v u group sets many j → (j ≤ many) × (j ≡ seat_of n clash (here (suc i)) cur v u)
+    pub seat_is : (j : ℕ) → Seat rows w now j → (j ≤ now.many) × (j ≡ seat_of n clash (here (suc i)) cur v u)
     unfolding seat_of
     seat_is j f = go (ℕ_discrete v u)
       where
-        go : Dec (v ≡ u) → (j ≤ many) × (j ≡ cond (eqb v u) (home n clash (here (suc i)) cur v) (at group u))
+        go : Dec (v ≡ u) → (j ≤ now.many) × (j ≡ cond (eqb v u) (home n clash (here (suc i)) cur v) (at now.group u))
         go (yes e) = (
           (f.own e).most,
-          home_is cap rows (here (suc i)) cur sets v entries k.held j many_few (f.own e)
-              ∙ sym (ap (λ (b : Bool). cond b (home n clash (here (suc i)) cur v) (at group u)) (eq-eqb v u e)),
+          home_is cap rows (here (suc i)) cur now.sets v entries k.held j many_few (f.own e)
+              ∙ sym (ap (λ (b : Bool). cond b (home n clash (here (suc i)) cur v) (at now.group u)) (eq-eqb v u e)),
         )
         go (no q) = let o = other_is q in (
           omega (arith, f.other q, fits.below u o.0 o.1),
-          f.other q ∙ sym (ap (λ (b : Bool). cond b (home n clash (here (suc i)) cur v) (at group u)) (ne_eqb v u q)),
+          f.other q ∙ sym (ap (λ (b : Bool). cond b (home n clash (here (suc i)) cur v) (at now.group u)) (ne_eqb v u q)),
         )
 
-    pub returns_next : (j m t : ℕ) → Seat rows v u group sets many j → m ≡ max many (suc j) → IsWith (at sets j) v t
-        → Returns cap rows who other all h i (set group v j) (set sets j t) m
-    returns_next j m t found f a = record {
+    pub returns_next : (j : ℕ) (h' : Seats) → Seat rows w now j → Joined v j now h'
+        → Returns cap rows went all h i (record { many = max h'.many (j + 1); group = h'.group; sets = h'.sets })
+    returns_next j h' found joins = record {
       behind = r ∷ k.behind;
       split = split;
       is =
-          ap (λ (x : ℕ). record { many = x; group = set group v j }) f
+          ap₂ (λ (x : ℕ) (q : List ℕ). record { many = x; group = q }) (let e : max h'.many (j + 1) ≡ max now.many (suc j) = omega (arith, joins.many) in e)
+          joins.group
           ∙ ap (λ (x : ℕ). into v x cur) (seat_is j found).1
           ∙ sym (put_seat n clash (here (suc i)) cur v u)
           ∙ ap₂ (λ (p : ℕ → Bool) (c : Seating). put n clash p r c) (here_without ∙ ap (λ (x : ℕ). without x (here i)) (sym (removal_entry v u)))
@@ -188,11 +191,11 @@ module _ (cap : ℕ) (rows who other : List ℕ) (all : ℕ) (h : Seats) (g : Re
           (here_without ∙ ap (λ (x : ℕ). without x (here i)) (sym (removal_entry v u))))
           ∙ sym (back_more n clash (here i) r k.behind (seating_of h));
       held =
-          sets_into cap (here (suc i)) (here i) group sets v j t k.held (omega (arith, k.long_group, who_is.0, g.few))
-          (omega (arith, k.long_sets, k.room, g.few, (seat_is j found).0)) a
+          sets_joined cap (here (suc i)) (here i) v j now h' joins k.held (omega (arith, k.long_group, who_is.0, g.few))
+          (omega (arith, k.long_sets, k.room, g.few, (seat_is j found).0))
           (λ z. without_other v (here i) v (subst (λ (p : ℕ → Bool). T (p v)) here_without z) refl) who_is.1
           (λ x q. sym ((λ y. here_without y x) ∙ ap (λ (b : Bool). here i x && not b) (ne_eqb v x (λ z. q (sym z))) ∙ and_true (here i x)));
-      room = omega (arith, k.room, (seat_is j found).0, f);
-      long_group = length-set group v j ∙ k.long_group;
-      long_sets = length-set sets j t ∙ k.long_sets;
+      room = omega (arith, k.room, (seat_is j found).0, joins.many);
+      long_group = group_long cap (here (suc i)) (here i) v j now h' joins ∙ k.long_group;
+      long_sets = sets_long cap (here (suc i)) (here i) v j now h' joins ∙ k.long_sets;
     }

@@ -1,10 +1,10 @@
 -- Laws of groups as sets: somebody joins a group, the lowest group that admits somebody, those who stayed are seated, groups are numbered. Assumes
 -- nothing.
-use mathlib.Core.Path.{◌≡◌, refl, sym, ap, ap₂, ◌∙◌, subst}
+use mathlib.Core.Path.{◌≡◌, refl, sym, ap, ap₂, ◌∙◌, subst, subst₂}
 use mathlib.Core.Logic.{◌≢◌}
 use mathlib.Core.Bool.{Bool, true, false, not, ◌&&◌, ◌||◌}
 use mathlib.Core.List.{List, [], ◌∷◌, ◌++◌, append_assoc}
-use Prim.Native.Nat.{ℕ, zero, suc, ◌+◌, ◌≤◌, ◌<◌}
+use Prim.Native.Nat.{ℕ, zero, suc, ◌+◌, ◌^◌, ◌≤◌, ◌<◌}
 use native.Mathlib.Numerals.{add-one}
 use native.Mathlib.Decide.{ℕ_discrete, dec_lt}
 use native.Mathlib.Omega.{arith}
@@ -12,10 +12,10 @@ use borrow.Author.Tests.{ne_eqb}
 use lib.Dec.{T, eqb, ltb, eqb→eq, ltb→lt, lt→ltb, T_not, not_T}
 use lib.ListN.{length, get_or, set, drop, replicate, length-set, length-append, length-drop, get_or-replicate, get_or-append}
 use lib.Seq.{drop-cons, set_at, get_or-set_same, get_or-set_other}
-use Rattle.sets.specs.Set.{has, IsWith, IsWithout, IsLowest}
-use Rattle.sets.proofs.TestLaws.{and_l, and_r, and_t, and_true, or_false, eqb_of, T→true, T→false, all_get, all_make}
+use Rattle.sets.specs.Set.{has, size, IsWith, IsWithout, IsLowest}
+use Rattle.sets.proofs.TestLaws.{and_l, and_r, and_t, and_true, or_false, eqb_of, T?, T→true, T→false, all_get, all_make}
 use Rattle.sets.proofs.MemberLaws.{lowest_is, lowest_none}
-use Rattle.sets.proofs.SetLaws.{has_none}
+use Rattle.sets.proofs.SetLaws.{has_none, has_beyond}
 use Rattle.clashes.specs.Labels.{place}
 use Rattle.clashes.specs.Matrix.{matrix, FirstRow}
 use Rattle.clashes.specs.Divisions.{at, groups}
@@ -25,9 +25,9 @@ use Rattle.graphs.proofs.LoopLaws.{kept_without, without_kept}
 use Rattle.shrink.specs.Rules.{or_else}
 use Rattle.shrink.specs.Back.{Seating, admits, home}
 use Rattle.restoring.specs.Rows.{names}
-use Rattle.restoring.specs.Seats.{Sets, Clear, Spread}
-use Rattle.removing.proofs.ShareLaws.{nobody}
-use Rattle.restoring.proofs.TurnLaws.{Turned, turned_start, turned_next, turn_place}
+use Rattle.restoring.specs.Seats.{Sets, Clear, Joined, Spread}
+use Rattle.restoring.specs.declared.Seats.{Seats}
+use Rattle.restoring.proofs.TurnLaws.{Turned, turned_start, turned_next, turned_nobody, turn_place}
 
 -- ---- w, who was absent, joins group j
 
@@ -69,6 +69,19 @@ module _ (cap : ℕ) (p p' : ℕ → Bool) (group sets : List ℕ) (w j r : ℕ)
       go (no e) (no f) =
           ap (λ (y : ℕ). has y x) (get_or-set_other sets j i r 0 f) ∙ is i x d
           ∙ ap₂ (λ (t : Bool) (y : ℕ). t && eqb y i) (sym (same x e)) (sym (get_or-set_other group w x j 0 e))
+
+module _ (cap : ℕ) (p p' : ℕ → Bool) (w j : ℕ) (h r : Seats) (joins : Joined w j h r) where
+  pub sets_joined : Sets cap p h.group h.sets → w < length h.group → j < length h.sets → ¬ T (p w) → T (p' w) → ((x : ℕ) → x ≢ w → p' x ≡ p x)
+      → Sets cap p' r.group r.sets
+  sets_joined is b c absent here same =
+      subst₂ (λ (g s : List ℕ). Sets cap p' g s) (sym joins.group) (sym joins.sets)
+      (sets_into cap p p' h.group h.sets w j (at r.sets j) is b c joins.wider absent here same)
+
+  pub group_long : length r.group ≡ length h.group
+  group_long = ap length joins.group ∙ length-set h.group w j
+
+  pub sets_long : length r.sets ≡ length h.sets
+  sets_long = ap length joins.sets ∙ length-set h.sets j (at r.sets j)
 
 -- nobody is in an empty group
 pub sets_none : (cap : ℕ) (p : ℕ → Bool) (group : List ℕ) → ((x : ℕ) → ¬ T (p x)) → Sets cap p group (replicate cap zero)
@@ -118,20 +131,23 @@ module _ (cap : ℕ) (rows : List ℕ) (p : ℕ → Bool) (s : Seating) (sets : 
 
 -- ---- those who stayed are seated as c says
 
-module _ (cap s : ℕ) (c : List ℕ) where
+module _ (cap s : ℕ) (c : List ℕ) (many : ℕ) where
   -- who of s is not left
   abbrev done : ℕ → ℕ → Bool
   done left x = has s x && not (has left x)
 
-  pub record Sitting (group sets : List ℕ) (left i : ℕ) : Type 0 where
-    pub long_group : length group ≡ cap
-    pub long_sets : length sets ≡ cap
+  pub record Sitting (h : Seats) (left i : ℕ) : Type 0 where
+    pub many_is : h.many ≡ many
+    pub long_group : length h.group ≡ cap
+    pub long_sets : length h.sets ≡ cap
     pub turned : Turned cap s left i
-    pub same : (x : ℕ) → x < cap → T (has s x) → ¬ T (has left x) → at group x ≡ at c (place ℕ_discrete x (names cap s))
-    pub held : Sets cap (done left) group sets
+    pub same : (x : ℕ) → x < cap → T (has s x) → ¬ T (has left x) → at h.group x ≡ at c (place ℕ_discrete x (names cap s))
+    pub held : Sets cap (done left) h.group h.sets
 
-  pub sitting_start : (group : List ℕ) → length group ≡ cap → length (replicate cap zero) ≡ cap → Sitting group (replicate cap zero) s 0
+  pub sitting_start : (group : List ℕ) → length group ≡ cap → length (replicate cap zero) ≡ cap
+      → Sitting (record { many = many; group = group; sets = replicate cap zero }) s 0
   sitting_start group a b = record {
+    many_is = refl;
     long_group = a;
     long_sets = b;
     turned = turned_start cap s;
@@ -139,15 +155,15 @@ module _ (cap s : ℕ) (c : List ℕ) where
     held = sets_none cap (done s) group (λ x t. T_not (has s x) (and_r (has s x) (not (has s x)) t) (and_l (has s x) (not (has s x)) t));
   }
 
-  pub sitting_next : (group sets : List ℕ) (left i w left' r : ℕ) → Sitting group sets left i → IsLowest cap left w → IsWithout left w left'
-      → at c i < cap
-      → IsWith (at sets (at c i)) w r → Sitting (set group w (at c i)) (set sets (at c i) r) left' (i + 1)
-  sitting_next group sets left i w left' r k low out b a = record {
-    long_group = length-set group w (at c i) ∙ k.long_group;
-    long_sets = length-set sets (at c i) r ∙ k.long_sets;
+  pub sitting_next : (h r : Seats) (left i w left' : ℕ) → Sitting h left i → IsLowest cap left w → IsWithout left w left' → at c i < cap
+      → Joined w (at c i) h r → Sitting r left' (i + 1)
+  sitting_next h r left i w left' k low out b joins = record {
+    many_is = joins.many ∙ k.many_is;
+    long_group = group_long cap (done left) (done left') w (at c i) h r joins ∙ k.long_group;
+    long_sets = sets_long cap (done left) (done left') w (at c i) h r joins ∙ k.long_sets;
     turned = turned_next cap s left i w k.turned low left' out;
-    same = λ x d h q. go x d h q (ℕ_discrete x w);
-    held = sets_into cap (done left) (done left') group sets w (at c i) r k.held room (omega (arith, k.long_sets)) a
+    same = λ x d t q. ap (λ (g : List ℕ). at g x) joins.group ∙ go x d t q (ℕ_discrete x w);
+    held = sets_joined cap (done left) (done left') w (at c i) h r joins k.held room (omega (arith, k.long_sets))
         (λ t. T_not (has left w) (and_r (has s w) (not (has left w)) t) low.member)
         (and_t (has s w) (not (has left' w)) (k.turned.within w low.member)
         (not_T (has left' w) (λ t. (without_kept left w left' w out t).1 refl)))
@@ -155,25 +171,29 @@ module _ (cap s : ℕ) (c : List ℕ) where
         ∙ and_true (has left x)));
   }
     where
-      room : w < length group
+      room : w < length h.group
       room = omega (arith, k.long_group, low.below)
 
-      go : (x : ℕ) → x < cap → T (has s x) → ¬ T (has left' x) → Dec (x ≡ w) → at (set group w (at c i)) x ≡ at c (place ℕ_discrete x (names cap s))
-      go x d h q (yes e) =
-          ap (at (set group w (at c i))) e ∙ get_or-set_same group w (at c i) 0 room
+      go : (x : ℕ) → x < cap → T (has s x) → ¬ T (has left' x) → Dec (x ≡ w)
+          → at (set h.group w (at c i)) x ≡ at c (place ℕ_discrete x (names cap s))
+      go x d t q (yes e) =
+          ap (at (set h.group w (at c i))) e ∙ get_or-set_same h.group w (at c i) 0 room
           ∙ ap (at c) (sym (turn_place cap s left i w k.turned low) ∙ ap (λ (y : ℕ). place ℕ_discrete y (names cap s)) (sym e))
-      go x d h q (no e) = get_or-set_other group w x (at c i) 0 e ∙ k.same x d h (λ t. q (kept_without left w left' x out t e))
+      go x d t q (no e) = get_or-set_other h.group w x (at c i) 0 e ∙ k.same x d t (λ z. q (kept_without left w left' x out z e))
 
-  pub sitting_end : (group sets : List ℕ) (left i many : ℕ) → Sitting group sets left i → left ≡ 0
-      → Spread cap s c many (record { many = many; group = group; sets = sets })
-  sitting_end group sets left i many k e = record {
-    many_is = refl;
+  pub sitting_end : (h : Seats) (left i : ℕ) → Sitting h left i → size cap s ≤ i → s < 2 ^ cap → Spread cap s c many h
+  sitting_end h left i k e small = record {
+    many_is = k.many_is;
     long_group = k.long_group;
     long_sets = k.long_sets;
-    group = λ x b h. k.same x b h (nobody left x e);
-    sets = λ j x b. k.held j x b ∙ ap (λ (t : Bool). (has s x && not t) && eqb (at group x) j) (ap (λ (m : ℕ). has m x) e ∙ has_none x)
-        ∙ ap (λ (t : Bool). t && eqb (at group x) j) (and_true (has s x));
+    group = λ x b t. k.same x b t (turned_nobody cap s left i k.turned e x b);
+    sets = λ j x b. k.held j x b ∙ ap (λ (t : Bool). t && eqb (at h.group x) j) (all_done x (T? (has left x)) (dec_lt x cap));
   }
+    where
+      all_done : (x : ℕ) → Dec (T (has left x)) → Dec (x < cap) → done left x ≡ has s x
+      all_done x (yes t) (yes b) = absurd (turned_nobody cap s left i k.turned e x b t)
+      all_done x (yes t) (no q) = absurd (subst T (has_beyond cap s x small (omega arith)) (k.turned.within x t))
+      all_done x (no q) b = ap (λ (t : Bool). has s x && not t) (T→false (has left x) q) ∙ and_true (has s x)
 
 -- ---- the groups are numbered by smallest member
 
@@ -184,15 +204,7 @@ pub record Numbering (group before colours : List ℕ) (next i : ℕ) : Type 0 w
   pub is : colours ≡ part (at group) i ++ drop i before
 
 module _ (group before : List ℕ) where
-  pub numbering_start : Numbering group before before 0 0
-  numbering_start = record { few = omega arith; many = refl; is = refl }
-
   module _ (colours : List ℕ) (next i : ℕ) (k : Numbering group before colours next i) where
-    pub numbering_long : i ≤ length before → length colours ≡ length before
-    numbering_long b =
-        ap length k.is ∙ length-append (part (at group) i) (drop i before)
-        ∙ ap₂ (λ (x y : ℕ). x + y) (division_length ℕ_discrete i (at group)) (length-drop i before) ∙ omega arith
-
     -- one more is written
     write : (x : ℕ) → i < length before → set colours i x ≡ (part (at group) i ++ x ∷ []) ++ drop (i + 1) before
     write x b =

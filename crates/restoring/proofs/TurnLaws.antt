@@ -1,14 +1,14 @@
 -- Laws of going through a set's members, lowest first, with a count: places, and the shrunk list's rows. Assumes nothing.
 use mathlib.Core.Path.{◌≡◌, refl, sym, ap, ap₂, ◌∙◌, subst}
 use mathlib.Core.Bool.{Bool, true, false, not, ◌&&◌, ◌||◌}
-use mathlib.Core.List.{List}
-use Prim.Native.Nat.{ℕ, ◌+◌, ◌<◌}
+use mathlib.Core.List.{List, ◌++◌}
+use Prim.Native.Nat.{ℕ, ◌+◌, ◌≤◌, ◌<◌}
 use native.Mathlib.Numerals.{add-one}
 use native.Mathlib.Decide.{ℕ_discrete, dec_lt}
 use native.Mathlib.Omega.{arith}
 use borrow.Author.Tests.{lt-ltb, le-ltb, eq-eqb, ne_eqb}
 use lib.Dec.{T, eqb, ltb}
-use lib.ListN.{length, get_or, set, drop, length-set}
+use lib.ListN.{length, get_or, set, drop, length-set, get_or-append}
 use lib.Seq.{drop-cons, get_or-drop, get_or-set_same, get_or-set_other}
 use Rattle.sets.specs.Lists.{members}
 use Rattle.sets.specs.Set.{has, size, IsWith, IsWithout, IsMeet, IsLowest}
@@ -23,7 +23,7 @@ use Rattle.graphs.proofs.LoopLaws.{without_kept, kept_without}
 use Rattle.shrink.specs.Rules.{among}
 use Rattle.shrink.proofs.Places.{at-In, place_of}
 use Rattle.restoring.specs.Rows.{names, Placed, Packed, Small}
-use Rattle.removing.proofs.ShareLaws.{nobody, size_nobody}
+use Rattle.removing.proofs.ShareLaws.{size_nobody}
 
 module _ (cap s : ℕ) where
   abbrev l : List ℕ
@@ -57,8 +57,12 @@ module _ (cap s : ℕ) where
   pub turned_start : Turned s 0
   turned_start = record { within = λ x t. t; rest = refl; most = omega arith }
 
-  pub turned_end : (left i : ℕ) → Turned left i → left ≡ 0 → i ≡ size cap s
-  turned_end left i t e = omega (arith, t.most, size_nobody cap left e)
+  -- somebody is left while fewer than all are gone through, and then nobody
+  pub turned_some : (left i : ℕ) → Turned left i → i < size cap s → left ≡ 0 → ⊥
+  turned_some left i t b e = omega (arith, t.most, size_nobody cap left e)
+
+  pub turned_nobody : (left i : ℕ) → Turned left i → size cap s ≤ i → (x : ℕ) → x < cap → ¬ T (has left x)
+  turned_nobody left i t b x c h = omega (arith, t.most, size_without cap left x _ c h (without_is left x))
 
   module _ (left i w : ℕ) (t : Turned left i) (low : IsLowest cap left w) where
     here : T (has s w)
@@ -95,9 +99,6 @@ module _ (cap s : ℕ) where
     pub turned : Turned left i
     pub placed : (x : ℕ) → x < cap → T (has s x) → ¬ T (has left x) → at out x ≡ place ℕ_discrete x l
 
-  pub placing_start : (out : List ℕ) → length out ≡ cap → Placing out s 0
-  placing_start out e = record { long = e; turned = turned_start; placed = λ x b h q. absurd (q h) }
-
   pub placing_next : (out : List ℕ) (left i w left' : ℕ) → Placing out left i → IsLowest cap left w → IsWithout left w left'
       → Placing (set out w i) left' (i + 1)
   placing_next out left i w left' k low r = record {
@@ -112,8 +113,8 @@ module _ (cap s : ℕ) where
           ∙ sym (turn_place left i w k.turned low) ∙ ap (λ (y : ℕ). place ℕ_discrete y l) (sym e)
       go x b h q (no d) = get_or-set_other out w x i 0 d ∙ k.placed x b h (λ t. q (kept_without left w left' x r t d))
 
-  pub placing_end : (out : List ℕ) (left i : ℕ) → Placing out left i → left ≡ 0 → Placed cap s out
-  placing_end out left i k e x b h = k.placed x b h (nobody left x e)
+  pub placing_end : (out : List ℕ) (left i : ℕ) → Placing out left i → size cap s ≤ i → Placed cap s out
+  placing_end out left i k e x b h = k.placed x b h (turned_nobody left i k.turned e x b)
 
   -- ---- one row: the places of those who are gone through
 
@@ -201,18 +202,16 @@ module _ (cap s : ℕ) where
 
   module _ (rows : List ℕ) where
     pub record Filling (out : List ℕ) (left i : ℕ) : Type 0 where
-      pub long : length out ≡ cap
       pub turned : Turned left i
       pub is : (x j : ℕ) → x < i → matrix out x j ≡ (ltb j (size cap s) && among l (matrix rows) x j)
 
-    pub filling_start : (out : List ℕ) → length out ≡ cap → Filling out s 0
-    filling_start out e = record { long = e; turned = turned_start; is = λ x j b. absurd (let z : ⊥ = omega arith in z) }
+    pub filling_start : (out : List ℕ) → Filling out s 0
+    filling_start out = record { turned = turned_start; is = λ x j b. absurd (let z : ⊥ = omega arith in z) }
 
     pub filling_next : (out : List ℕ) (left i w left' r : ℕ) → Filling out left i → IsLowest cap left w → IsWithout left w left'
         → Packed cap (get_or rows w 0) s r
         → i < length out → Filling (set out i r) left' (i + 1)
     filling_next out left i w left' r k low out-w p room = record {
-      long = length-set out i r ∙ k.long;
       turned = turned_next left i w k.turned low left' out-w;
       is = λ x j b. go x j b (ℕ_discrete x i);
     }
@@ -223,5 +222,10 @@ module _ (cap s : ℕ) where
             ∙ ap (λ (y : ℕ). ltb j (size cap s) && matrix rows y (at l j)) (sym (turn_at left i w k.turned low) ∙ ap (at l) (sym e))
         go x j b (no q) = ap (λ (y : ℕ). has y j) (get_or-set_other out i x r 0 q) ∙ k.is x j (omega arith)
 
-    pub filling_end : (out : List ℕ) (left i : ℕ) → Filling out left i → left ≡ 0 → Small cap rows s out
-    filling_end out left i k e = record { long = k.long; is = λ x j b. k.is x j (omega (arith, turned_end left i k.turned e)) }
+    -- behind the rows that are filled in stands whatever stands
+    pub filling_end : (out behind : List ℕ) (left i : ℕ) → Filling out left i → size cap s ≤ i → length (out ++ behind) ≡ cap → size cap s ≤ length out
+        → Small cap rows s (out ++ behind)
+    filling_end out behind left i k b e f = record {
+      long = e;
+      is = λ x j c. ap (λ (y : ℕ). has y j) (get_or-append out behind 0 x (omega arith)) ∙ k.is x j (omega arith);
+    }

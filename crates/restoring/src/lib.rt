@@ -1,18 +1,18 @@
 // Document 02's Ask 8, "Shrink first", the second half: the shrunk list's rows, and putting back who was removed, group by group. Sets are words.
 #![tactic(auto)]
 
-ghost use Rattle.std.specs.Prelude.{◌≡◌, ◌++◌, ◌≤◌, ◌<◌, suc, max, length, drop};
+ghost use Rattle.std.specs.Prelude.{◌≡◌, ◌++◌, ◌≤◌, ◌<◌, length, drop};
 ghost use Rattle.std.proofs.Math.Decide.{ℕ_discrete};
 ghost use Rattle.clashes.specs.Matrix.{FirstRow};
 ghost use Rattle.clashes.specs.Divisions.{at, division};
 ghost use Rattle.removing.specs.Words.{Entries};
 ghost use Rattle.restoring.specs.Rows.{Placed, Packed, Small};
-ghost use Rattle.restoring.specs.Seats.{Clear, Seat, Taken, Spread, Returning, Returned, Standing};
+ghost use Rattle.restoring.specs.Seats.{Clear, Seat, Taken, Spread, Returning, Returned, Standing, Joined};
 
-use removing::Shrunk;
-use sets::{lowest, meet, rest, with};
+use removing::{Goes, Shrunk};
+use sets::{lowest, meet, rest, size, with};
 
-// Groups of those who are present: how many, each entry's, and each group's members.
+// Groups of those who are present: how many, each entry's, and each group's members. As there is no heap, both arrays have room for all entries.
 #[derive(Clone, Copy)]
 pub struct Seats {
     pub many: usize,
@@ -20,18 +20,50 @@ pub struct Seats {
     pub sets: [u64; 64],
 }
 
+impl Seats {
+    // v joins group j.
+    fn join(&mut self, v: usize, j: usize)
+        requires { (v < 64) × (j < 64) }
+        ensures { Joined v j self.old self.new }
+    {
+        self.group[v] = j as u8;
+        self.sets[j] = with(self.sets[j], v);
+    }
+
+    // The lowest group with no member of row, or the next after all groups.
+    fn home(&self, row: u64) -> usize
+        requires { self.now.many ≤ 64 }
+        ensures { FirstRow (λ j. Clear row (at self.now.sets j)) self.now.many result }
+    {
+        for (j, &members) in self.sets[..self.many].iter().enumerate() {
+            if meet(row, members) == 0 {
+                return j;
+            }
+        }
+        self.many
+    }
+
+    // The group that somebody who went is put into.
+    fn seat(&self, rows: &[u64], goes: Goes) -> usize
+        requires { (goes.who < length rows.now) × (goes.other < 64) × (self.now.many ≤ 64) }
+        ensures { Seat rows.now goes self.now result }
+    {
+        if goes.who == goes.other {
+            return self.home(rows[goes.who]);
+        }
+        usize::from(self.group[goes.other])
+    }
+}
+
 // Each member's place among the members, by rising number.
 fn places(present: u64) -> [u8; 64]
     ensures { Placed 64 present result }
 {
-    let mut out: [u8; 64] = [0; 64];
+    let mut out = [0; 64];
     let mut left = present;
-    let mut i: usize = 0;
-    while left != 0 {
-        let w = lowest(left);
+    for i in 0..size(present) {
+        out[lowest(left)] = i as u8;
         left = rest(left);
-        out[w] = i as u8;
-        i += 1;
     }
     out
 }
@@ -41,13 +73,12 @@ fn packed(row: u64, present: u64, places: &[u8; 64]) -> u64
     requires { Placed 64 present places.now }
     ensures { Packed 64 row present result }
 {
-    let mut out: u64 = 0;
+    let mut out = 0;
     let mut left = meet(row, present);
     while left != 0 {
         let w = lowest(left);
         left = rest(left);
-        let place = places[w] as usize;
-        out = with(out, place);
+        out = with(out, usize::from(places[w]));
     }
     out
 }
@@ -58,15 +89,11 @@ pub fn small_rows(rows: &[u64], present: u64) -> [u64; 64]
     ensures { Small 64 rows.now present result }
 {
     let at = places(present);
-    let mut out: [u64; 64] = [0; 64];
+    let mut out = [0; 64];
     let mut left = present;
-    let mut i: usize = 0;
-    while left != 0 {
-        let w = lowest(left);
+    for small in &mut out[..size(present)] {
+        *small = packed(rows[lowest(left)], present, &at);
         left = rest(left);
-        let row = packed(rows[w], present, &at);
-        out[i] = row;
-        i += 1;
     }
     out
 }
@@ -76,99 +103,32 @@ pub fn seated(present: u64, c: [u8; 64], many: usize) -> Seats
     requires { Taken 64 present c }
     ensures { Spread 64 present c many result }
 {
-    let mut group: [u8; 64] = [0; 64];
-    let mut sets: [u64; 64] = [0; 64];
+    let mut seats = Seats {
+        many,
+        group: [0; 64],
+        sets: [0; 64],
+    };
     let mut left = present;
-    let mut i: usize = 0;
-    while left != 0 {
-        let w = lowest(left);
+    for &colour in &c[..size(present)] {
+        seats.join(lowest(left), usize::from(colour));
         left = rest(left);
-        let colour = c[i];
-        let j = colour as usize;
-        group[w] = colour;
-        let members = with(sets[j], w);
-        sets[j] = members;
-        i += 1;
     }
-    Seats {
-        many: many,
-        group: group,
-        sets: sets,
-    }
-}
-
-// The lowest of `many` groups with no member of row, or many.
-fn home(row: u64, sets: &[u64; 64], many: usize) -> usize
-    requires { many ≤ 64 }
-    ensures { FirstRow (λ j. Clear row (at sets.now j)) many result }
-{
-    let mut j: usize = 0;
-    while j < many {
-        if meet(row, sets[j]) == 0 {
-            return j;
-        }
-        j += 1;
-    }
-    j
-}
-
-fn wide(x: u8) -> usize
-    ensures { result ≡ x }
-{
-    x as usize
-}
-
-// The group that v is put into, where u was noted with it.
-fn seat(rows: &[u64], v: usize, u: usize, group: &[u8; 64], sets: &[u64; 64], many: usize) -> usize
-    requires { (v < length rows.now) × (u < 64) × (many ≤ 64) }
-    ensures { Seat rows.now v u group.now sets.now many result }
-{
-    if v == u {
-        return home(rows[v], sets, many);
-    }
-    wide(group[u])
-}
-
-// How many groups there are of `many` once somebody is in group j.
-fn more(many: usize, j: usize) -> usize
-    requires { j < 64 }
-    ensures { result ≡ max many (suc j) }
-{
-    if many <= j {
-        return j + 1;
-    }
-    many
+    seats
 }
 
 // Who went is put back, the last first: into the noted entry's group, or, where it was noted with itself, into the lowest group that admits it or a
 // new one.
 pub fn put_back(rows: &[u64], s: Shrunk, seats: Seats) -> Seats
-    requires { Returning 64 rows.now s.who s.other s.gone seats }
-    ensures { Returned 64 rows.now s.who s.other s.gone seats result }
+    requires { Returning 64 rows.now s.went s.gone seats }
+    ensures { Returned 64 rows.now s.went s.gone seats result }
 {
-    let gone = s.gone;
-    let who = s.who;
-    let other = s.other;
-    let mut group = seats.group;
-    let mut sets = seats.sets;
-    let mut many = seats.many;
-    let mut back: usize = 0;
-    while back < gone {
-        back += 1;
-        let at = gone - back; // in reverse order
-        let v = who[at] as usize;
-        let u = other[at] as usize;
-        let j = seat(rows, v, u, &group, &sets, many);
-        group[v] = j as u8;
-        let members = with(sets[j], v);
-        sets[j] = members;
-        many = more(many, j);
+    let mut seats = seats;
+    for &goes in s.went[..s.gone].iter().rev() {
+        let j = seats.seat(rows, goes);
+        seats.join(goes.who, j);
+        seats.many = seats.many.max(j + 1);
     }
-    Seats {
-        many: many,
-        group: group,
-        sets: sets,
-    }
+    seats
 }
 
 // The groups of n entries are written, numbered from 0 by smallest member: who is its group's smallest opens the next number.
@@ -176,21 +136,15 @@ pub fn number(n: usize, seats: Seats, colours: &mut [u8])
     requires { Standing 64 n seats (length colours.old) }
     ensures { colours.new ≡ division ℕ_discrete n (at seats.group) ++ drop n colours.old }
 {
-    let group = seats.group;
-    let sets = seats.sets;
     let mut next: u8 = 0;
-    let mut i: usize = 0;
-    while i < n {
-        let found = group[i]; // the group's number so far
-        let j = found as usize;
-        let w = lowest(sets[j]);
+    for i in 0..n {
+        let found = seats.group[i]; // the group's number so far
+        let w = lowest(seats.sets[usize::from(found)]);
         if w == i {
             colours[i] = next;
             next += 1;
         } else {
-            let colour = colours[w];
-            colours[i] = colour;
+            colours[i] = colours[w];
         }
-        i += 1;
     }
 }

@@ -9,7 +9,6 @@ ghost use Rattle.graphs.specs.Graph.{pair};
 ghost use Rattle.graphs.specs.Held.{view, choice_of, HoldsAt, EachAt};
 ghost use Rattle.bounds.specs.Names.{mycielskian};
 
-use graphs::Choice;
 use wide::Set;
 
 // Is the Mycielskian bound of lent rows not below `best`?
@@ -25,7 +24,7 @@ pub fn reaches(words: usize, live: Set, rows: &[u64], best: usize) -> bool
 }
 
 // Of the non-adjacent live u < v the pair with most common neighbours, then smallest u, then smallest v.
-pub fn choose_among(words: usize, live: Set, rows: &[u64]) -> Choice
+pub fn choose_among(words: usize, live: Set, rows: &[u64]) -> Option<(usize, usize)>
     requires form { Form words rows.now }
     requires holds_at { HoldsAt (64 * words) (num live) (held words rows.now) }
     ensures { EachAt (64 * words) (num live) (held words rows.now) (λ h. choice_of result ≡ pair h.n (view h)) }

@@ -1,8 +1,9 @@
 -- The members of a group, one entry at a time.
 use Prim.Native.Nat.{ℕ, suc, ◌+◌, ◌≤◌, ◌<◌}
-use mathlib.Core.Path.{◌≡◌}
+use mathlib.Core.Path.{◌≡◌, refl, ap}
 use mathlib.Core.List.{List, [], ◌∷◌}
-use mathlib.Core.Bool.{Bool, true, false}
+use mathlib.Core.Bool.{Bool, true, false, cond}
+use Rattle.std.specs.Prelude.{filter}
 use native.Mathlib.Omega.{arith}
 use borrow.Author.Tests.{eq-eqb, ne_eqb}
 use lib.Dec.{eqb}
@@ -30,3 +31,13 @@ members_le (x ∷ c) i g = go (eqb x g) (members_le c (i + 1) g)
     go : (b : Bool) → length (members_of c (i + 1) g) ≤ length c → length (put b i (members_of c (i + 1) g)) ≤ suc (length c)
     go true r = omega arith
     go false r = omega arith
+
+-- as many as there are bytes with the group's number
+pub members_count : (c : List ℕ) (i g : ℕ) → length (members_of c i g) ≡ length (filter (λ x. eqb x g) c)
+members_count [] i g = refl
+members_count (x ∷ c) i g = go (eqb x g) (members_count c (i + 1) g)
+  where
+    go : (b : Bool) → length (members_of c (i + 1) g) ≡ length (filter (λ x. eqb x g) c)
+        → length (put b i (members_of c (i + 1) g)) ≡ length (cond b (x ∷ filter (λ x. eqb x g) c) (filter (λ x. eqb x g) c))
+    go true r = ap suc r
+    go false r = r

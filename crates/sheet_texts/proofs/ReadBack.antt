@@ -1,6 +1,6 @@
 -- What is written, checked: line by line it is accepted, until the first member that clashes with an earlier one of its group.
 --
---   found most x o : 34 at the line x, or o where there is none
+--   found x o : 34 at the line x, or o where there is none
 --   is_in l j     : j is one of l's elements
 --   placed_all p l : the counts after the members l
 --   add_all m l   : the set m with the members l
@@ -11,6 +11,7 @@ use mathlib.Core.Logic.{◌⊎◌, inl, inr, ⊎_elim}
 use mathlib.Core.List.{List, [], ◌∷◌, ◌++◌, append_assoc}
 use mathlib.Core.Bool.{Bool, true, false, cond, ◌&&◌, ◌||◌, or_assoc, or_comm}
 use mathlib.Core.Option.{Option, none, some}
+use Rattle.std.specs.Prelude.{Some, Result, Ok, Err}
 use native.Mathlib.Nat.{add-zero, not-suc-le-zero}
 use native.Mathlib.Decide.{dec_lt, ℕ_discrete}
 use native.Mathlib.Omega.{arith}
@@ -25,28 +26,29 @@ use Rattle.clashes.proofs.DivisionLaws.{groups_fit}
 use Rattle.clashes.proofs.ColouringLaws.{canon_below}
 use Rattle.lines.specs.Text.{Text, lines_of}
 use Rattle.lines.specs.Numeral.{numeral, one_line}
-use Rattle.lines.specs.declared.Alone.TheVariants.{Only}
 use Rattle.lines.proofs.Back.{alone_back, one_back}
 use Rattle.lists.specs.Read.{most_entries, longest_text}
-use Rattle.sheets.specs.Check.{no_colours_up_to, accepted, refused_up_to, groups_word, size_word, placed, step_of, none as nobody, after_up_to, check_from_up_to, start, sheet_up_to, sheet_of}
+use Rattle.sheets.specs.Check.{no_colours_up_to, accepted, refused, groups_word, size_word, placed, step_of, none as nobody, after, check_from, start, sheet_up_to, sheet_of}
 use Rattle.sheets.specs.declared.SheetFault.TheVariants.{Clash}
-use Rattle.sheets.specs.declared.Outcome.{Outcome}
+use Rattle.sheets.specs.declared.SheetFault.{SheetFault}
+use Rattle.sheets.specs.declared.Refused.{Refused}
+use Rattle.sheets.specs.declared.Division.{Division}
 use Rattle.sheets.specs.declared.Progress.{Progress}
 use Rattle.sheets.specs.declared.Step.{Step}
-use Rattle.sheets.specs.declared.Step.TheVariants.{Stop, Count, Place}
+use Rattle.sheets.specs.declared.Step.TheVariants.{Count, Place}
 use Rattle.sheets.proofs.Steps.{at_member, at_size, at_groups}
 use Rattle.sheet_texts.specs.Sheet.{members_of, member_lines, group_text, groups_text, sheet_text, clash_in, or_else, clash_from, clash_line}
 use Rattle.sheet_texts.proofs.Members.{members_le}
 use Rattle.sheet_texts.proofs.Lengths.{sheet_fits}
 use Rattle.sheet_texts.proofs.Groups.{Rising, rising_from, Led, group_led, members_risen, member_of, of_member}
 
-abbrev pub found : ℕ → Option ℕ → Outcome → Outcome
-found most none o = o
-found most (some k) o = refused_up_to most Clash k
+abbrev pub found : Option ℕ → Result Division Refused → Result Division Refused
+found none o = o
+found (some k) o = refused Clash k
 
-found_else : (most : ℕ) (x y : Option ℕ) (o : Outcome) → found most (or_else x y) o ≡ found most x (found most y o)
-found_else most none y o = refl
-found_else most (some k) y o = refl
+found_else : (x y : Option ℕ) (o : Result Division Refused) → found (or_else x y) o ≡ found x (found y o)
+found_else none y o = refl
+found_else (some k) y o = refl
 
 -- ---- sets of members
 
@@ -114,16 +116,15 @@ set_out c (i ∷ l) g j h = set_out (set c i g) l g j (λ m. h (inr m)) ∙ get_
 
 -- the counts after all members of a group
 pub record After (p q : Progress) (l : List ℕ) : Type 0 where
-  pub begun : q.begun ≡ true
   pub left : q.left ≡ p.left
   pub need : q.need ≡ p.need - length l
   pub opened : q.opened ≡ p.opened
 
-placed-all : (p : Progress) (l : List ℕ) → p.begun ≡ true → After p (placed_all p l) l
-placed-all p [] b = record { begun = b; left = refl; need = omega arith; opened = refl }
-placed-all p (i ∷ l) b =
-    let r = placed-all (placed p (i + 1)) l refl in
-    record { begun = r.begun; left = r.left; need = omega (arith, r.need); opened = r.opened }
+placed-all : (p : Progress) (l : List ℕ) → After p (placed_all p l) l
+placed-all p [] = record { left = refl; need = omega arith; opened = refl }
+placed-all p (i ∷ l) =
+    let r = placed-all (placed p (i + 1)) l in
+    record { left = r.left; need = omega (arith, r.need); opened = r.opened }
 
 placed_first : (p : Progress) (l : List ℕ) → p.fresh ≡ false → (placed_all p l).first ≡ p.first
 placed_first p [] e = refl
@@ -131,10 +132,9 @@ placed_first p (i ∷ l) e = placed_first (placed p (i + 1)) l refl ∙ rw e
 
 -- ---- one member
 
-module _ (most n : ℕ) (sevens : n < 10000000) (clash : ℕ → ℕ → Bool) where
+module _ (n : ℕ) (sevens : n < 10000000) (clash : ℕ → ℕ → Bool) where
   -- what holds before the members l of the group g, of which those in `seen` were read
   pub record Ready (g : ℕ) (p : Progress) (mates earlier : ℕ → Bool) (seen l : List ℕ) : Type 0 where
-    pub begun : p.begun ≡ true
     pub need : p.need ≡ length l
     pub opened : p.opened ≡ g + 1
     pub rising : Rising n p.floor l
@@ -143,29 +143,28 @@ module _ (most n : ℕ) (sevens : n < 10000000) (clash : ℕ → ℕ → Bool) w
     pub below : (j : ℕ) → In j seen → j < n
 
   member_step : (g : ℕ) (p : Progress) (mates earlier : ℕ → Bool) (seen : List ℕ) (i : ℕ) (l : List ℕ) → Ready g p mates earlier seen (i ∷ l)
-      → step_of n clash p mates earlier (numeral (i + 1)) ≡ cond (some? (clash i) seen) (Stop Clash) (Place (placed p (i + 1)) i g)
+      → step_of n clash (Some p) mates earlier (numeral (i + 1)) ≡ cond (some? (clash i) seen) (Err Clash) (Ok (Place (placed p (i + 1)) i g))
   member_step g p mates earlier seen i l r =
       let w = r.rising in
       let e : i + 1 - 1 ≡ i = omega arith in
       let o : p.opened - 1 ≡ g = omega (arith, r.opened) in
-      at_member n clash p mates earlier (numeral (i + 1)) (Only (i + 1)) r.begun (omega (arith, r.need)) (alone_back (i + 1) (omega arith))
+      at_member n clash p mates earlier (numeral (i + 1)) (Some (i + 1)) (omega (arith, r.need)) (alone_back (i + 1) (omega arith))
       ∙ rw (le-leb 1 (i + 1) (omega arith), le-leb (i + 1) n (omega arith), lt-ltb p.floor (i + 1) (omega arith), e, r.apart i (inl refl), o, clash_is n (clash i) mates seen r.mates_are r.below)
 
   -- the members l, and then the rest of the sheet
   members_read : (g : ℕ) (p : Progress) (mates earlier : ℕ → Bool) (seen l rest : List ℕ) (colours : List ℕ) (k : ℕ) → Ready g p mates earlier seen l
-      → check_from_up_to most (lines_of (member_lines l ++ rest)) n clash k p mates earlier colours
-      ≡ found most (clash_in clash seen l k) (check_from_up_to most (lines_of rest) n clash (k + length l) (placed_all p l) (add_all mates l) earlier (set_all colours l g))
+      → check_from (lines_of (member_lines l ++ rest)) n clash k (Some p) mates earlier colours
+      ≡ found (clash_in clash seen l k) (check_from (lines_of rest) n clash (k + length l) (Some (placed_all p l)) (add_all mates l) earlier (set_all colours l g))
   members_read g p mates earlier seen [] rest colours k r = rw (add-zero k)
   members_read g p mates earlier seen (i ∷ l) rest colours k r =
       let t = member_lines l ++ rest in
-      ap (λ (x : List ℕ). check_from_up_to most (lines_of x) n clash k p mates earlier colours) (append_assoc (one_line [] (i + 1)) (member_lines l) rest)
-      ∙ ap (λ (x : Text). check_from_up_to most x n clash k p mates earlier colours) (one_back [] (i + 1) t tt)
-      ∙ ap (λ (x : Step). after_up_to most x k mates earlier colours (check_from_up_to most (lines_of t) n clash (k + 1))) (member_step g p mates earlier seen i l r)
+      ap (λ (x : List ℕ). check_from (lines_of x) n clash k (Some p) mates earlier colours) (append_assoc (one_line [] (i + 1)) (member_lines l) rest)
+      ∙ ap (λ (x : Text). check_from x n clash k (Some p) mates earlier colours) (one_back [] (i + 1) t tt)
+      ∙ ap (λ (x : Result Step SheetFault). after x k mates earlier colours (check_from (lines_of t) n clash (k + 1))) (member_step g p mates earlier seen i l r)
       ∙ go (some? (clash i) seen) (members_read g (placed p (i + 1)) (λ j. mates j || eqb i j) earlier (i ∷ seen) l rest (set colours i g) (k + 1) next)
     where
       next : Ready g (placed p (i + 1)) (λ j. mates j || eqb i j) earlier (i ∷ seen) l
       next = record {
-        begun = refl;
         need = omega (arith, r.need);
         opened = r.opened;
         rising = r.rising.2;
@@ -175,11 +174,11 @@ module _ (most n : ℕ) (sevens : n < 10000000) (clash : ℕ → ℕ → Bool) w
       }
 
       go : (b : Bool)
-          → check_from_up_to most (lines_of (member_lines l ++ rest)) n clash (k + 1) (placed p (i + 1)) (λ j. mates j || eqb i j) earlier (set colours i g)
-          ≡ found most (clash_in clash (i ∷ seen) l (k + 1)) (check_from_up_to most (lines_of rest) n clash (k + 1 + length l) (placed_all p (i ∷ l)) (add_all mates (i ∷ l)) earlier (set_all colours (i ∷ l) g))
-          → after_up_to most (cond b (Stop Clash) (Place (placed p (i + 1)) i g)) k mates earlier colours (check_from_up_to most (lines_of (member_lines l ++ rest)) n clash (k + 1))
-          ≡ found most (cond b (some k) (clash_in clash (i ∷ seen) l (k + 1)))
-          (check_from_up_to most (lines_of rest) n clash (k + suc (length l)) (placed_all p (i ∷ l)) (add_all mates (i ∷ l)) earlier (set_all colours (i ∷ l) g))
+          → check_from (lines_of (member_lines l ++ rest)) n clash (k + 1) (Some (placed p (i + 1))) (λ j. mates j || eqb i j) earlier (set colours i g)
+          ≡ found (clash_in clash (i ∷ seen) l (k + 1)) (check_from (lines_of rest) n clash (k + 1 + length l) (Some (placed_all p (i ∷ l))) (add_all mates (i ∷ l)) earlier (set_all colours (i ∷ l) g))
+          → after (cond b (Err Clash) (Ok (Place (placed p (i + 1)) i g))) k mates earlier colours (check_from (lines_of (member_lines l ++ rest)) n clash (k + 1))
+          ≡ found (cond b (some k) (clash_in clash (i ∷ seen) l (k + 1)))
+          (check_from (lines_of rest) n clash (k + suc (length l)) (Some (placed_all p (i ∷ l))) (add_all mates (i ∷ l)) earlier (set_all colours (i ∷ l) g))
       go true h = refl
       go false h = let e : k + 1 + length l ≡ k + suc (length l) = omega arith in h ∙ rw e
 
@@ -191,7 +190,6 @@ module _ (most : ℕ) (c : List ℕ) (canon : Canon 0 c) (few : length c ≤ mos
 
   -- what holds before k groups, the first of which is group g
   pub record State (g k : ℕ) (p : Progress) (mates earlier : ℕ → Bool) (colours : List ℕ) : Type 0 where
-    pub begun : p.begun ≡ true
     pub need : p.need ≡ 0
     pub left : p.left ≡ k
     pub opened : p.opened ≡ g
@@ -201,24 +199,23 @@ module _ (most : ℕ) (c : List ℕ) (canon : Canon 0 c) (few : length c ≤ mos
     pub size : length colours ≡ most
     pub coloured : (j : ℕ) → j < length c → at c j < g → get_or colours j 0 ≡ at c j
 
-  -- after_up_to most "size S"
+  -- after "size S"
   abbrev opening : ℕ → Progress → Progress
-  opening g p = record { begun = true; left = p.left - 1; need = length (members_of c 0 g); opened = p.opened + 1; fresh = true; first = p.first; floor = p.first }
+  opening g p = record { left = p.left - 1; need = length (members_of c 0 g); opened = p.opened + 1; fresh = true; first = p.first; floor = p.first }
 
-  size_step : (g : ℕ) (p : Progress) (mates earlier : ℕ → Bool) → p.begun ≡ true → p.need ≡ 0 → 1 ≤ p.left → 1 ≤ length (members_of c 0 g)
-      → step_of n clash p mates earlier (size_word ++ numeral (length (members_of c 0 g))) ≡ Count (opening g p)
-  size_step g p mates earlier b d l h =
+  size_step : (g : ℕ) (p : Progress) (mates earlier : ℕ → Bool) → p.need ≡ 0 → 1 ≤ p.left → 1 ≤ length (members_of c 0 g)
+      → step_of n clash (Some p) mates earlier (size_word ++ numeral (length (members_of c 0 g))) ≡ Ok (Count (opening g p))
+  size_step g p mates earlier d l h =
       let m = length (members_of c 0 g) in
-      at_size n clash p mates earlier (size_word ++ numeral m) (Only m) b (omega arith) l (alone_back m (omega (arith, members_le c 0 g)))
+      at_size n clash p mates earlier (size_word ++ numeral m) (Some m) (omega arith) l (alone_back m (omega (arith, members_le c 0 g)))
       ∙ rw (le-leb 1 m h)
 
   module _ (g k : ℕ) (p : Progress) (mates earlier : ℕ → Bool) (colours : List ℕ) (st : State g (suc k) p mates earlier colours) (led : Led c g (members_of c 0 g)) where
     abbrev m : List ℕ
     m = members_of c 0 g
 
-    ready : Ready most n sevens clash g (opening g p) nobody (λ j. earlier j || mates j) [] m
+    ready : Ready n sevens clash g (opening g p) nobody (λ j. earlier j || mates j) [] m
     ready = record {
-      begun = refl;
       need = refl;
       opened = ap (λ (x : ℕ). x + 1) st.opened;
       rising = rise;
@@ -236,9 +233,8 @@ module _ (most : ℕ) (c : List ℕ) (canon : Canon 0 c) (few : length c ≤ mos
 
     next : State (g + 1) k (placed_all (opening g p) m) (add_all nobody m) (λ j. earlier j || mates j) (set_all colours m g)
     next =
-        let a = placed-all (opening g p) m refl in
+        let a = placed-all (opening g p) m in
         record {
-          begun = a.begun;
           need = omega (arith, a.need);
           left = omega (arith, a.left, st.left);
           opened = a.opened ∙ ap (λ (x : ℕ). x + 1) st.opened;
@@ -264,16 +260,16 @@ module _ (most : ℕ) (c : List ℕ) (canon : Canon 0 c) (few : length c ≤ mos
 
     -- one group, and then the rest of the sheet
     group_read : (rest : List ℕ) (line : ℕ)
-        → check_from_up_to most (lines_of (group_text c g ++ rest)) n clash line p mates earlier colours
-        ≡ found most (clash_in clash [] m (line + 1)) (check_from_up_to most (lines_of rest) n clash (line + 1 + length m) (placed_all (opening g p) m) (add_all nobody m) (λ j. earlier j || mates j) (set_all colours m g))
+        → check_from (lines_of (group_text c g ++ rest)) n clash line (Some p) mates earlier colours
+        ≡ found (clash_in clash [] m (line + 1)) (check_from (lines_of rest) n clash (line + 1 + length m) (Some (placed_all (opening g p) m)) (add_all nobody m) (λ j. earlier j || mates j) (set_all colours m g))
     group_read rest line =
         let t = member_lines m ++ rest in
         let b : 1 ≤ length m = omega (arith, ap length led.whole) in
-        ap (λ (x : List ℕ). check_from_up_to most (lines_of x) n clash line p mates earlier colours) (append_assoc (one_line size_word (length m)) (member_lines m) rest)
-        ∙ ap (λ (x : Text). check_from_up_to most x n clash line p mates earlier colours)
+        ap (λ (x : List ℕ). check_from (lines_of x) n clash line (Some p) mates earlier colours) (append_assoc (one_line size_word (length m)) (member_lines m) rest)
+        ∙ ap (λ (x : Text). check_from x n clash line (Some p) mates earlier colours)
         (one_back size_word (length m) t ((λ e. omega arith), ((λ e. omega arith), ((λ e. omega arith), ((λ e. omega arith), ((λ e. omega arith), tt))))))
-        ∙ ap (λ (x : Step). after_up_to most x line mates earlier colours (check_from_up_to most (lines_of t) n clash (line + 1))) (size_step g p mates earlier st.begun st.need (omega (arith, st.left)) b)
-        ∙ members_read most n sevens clash g (opening g p) nobody (λ j. earlier j || mates j) [] m rest colours (line + 1) ready
+        ∙ ap (λ (x : Result Step SheetFault). after x line mates earlier colours (check_from (lines_of t) n clash (line + 1))) (size_step g p mates earlier st.need (omega (arith, st.left)) b)
+        ∙ members_read n sevens clash g (opening g p) nobody (λ j. earlier j || mates j) [] m rest colours (line + 1) ready
 
   -- the group numbers are those that were written
   colours_are : (w : List ℕ) → length w ≡ most → ((j : ℕ) → j < length c → get_or w j 0 ≡ at c j) → take n w ≡ c
@@ -282,14 +278,14 @@ module _ (most : ℕ) (c : List ℕ) (canon : Canon 0 c) (few : length c ≤ mos
       ext_get_or 0 (take n w) c l (λ j b. get_or-take n w j 0 (omega arith) ∙ h j (omega arith))
 
   groups_read : (k g : ℕ) (p : Progress) (mates earlier : ℕ → Bool) (colours : List ℕ) (line : ℕ) → State g k p mates earlier colours → g + k ≡ groups 0 c
-      → (w : List ℕ) × (take n w ≡ c) × (check_from_up_to most (lines_of (groups_text c g k)) n clash line p mates earlier colours ≡ found most (clash_from clash c g k line) (accepted n (groups 0 c) w))
+      → (w : List ℕ) × (take n w ≡ c) × (check_from (lines_of (groups_text c g k)) n clash line (Some p) mates earlier colours ≡ found (clash_from clash c g k line) (accepted n (groups 0 c) w))
   groups_read zero g p mates earlier colours line st e =
       let z : g ≡ groups 0 c = omega arith in
       let b : (j : ℕ) → j < length c → at c j < g = λ j h. omega (arith, canon_below 0 c j h) in
       let a = T→true (all n (λ j. earlier j || mates j)) (all_make n (λ j. earlier j || mates j) (λ j h. st.seen j h (b j h))) in (
         colours,
         colours_are colours st.size (λ j h. st.coloured j h (b j h)),
-        rw (st.begun, lt-leb 1 p.need (omega (arith, st.need)), lt-leb 1 p.left (omega (arith, st.left)), a, st.opened, z),
+        rw (lt-leb 1 p.need (omega (arith, st.need)), lt-leb 1 p.left (omega (arith, st.left)), a, st.opened, z),
       )
   groups_read (suc k) g p mates earlier colours line st e =
       let led = group_led c g canon (omega arith) in
@@ -298,18 +294,17 @@ module _ (most : ℕ) (c : List ℕ) (canon : Canon 0 c) (few : length c ≤ mos
         r.0,
         r.1,
         group_read g k p mates earlier colours st led (groups_text c (g + 1) k) line
-            ∙ ap (found most (clash_in clash [] m (line + 1))) r.2
-            ∙ sym (found_else most (clash_in clash [] m (line + 1)) (clash_from clash c (g + 1) k (line + 1 + length m)) (accepted n (groups 0 c) r.0)),
+            ∙ ap (found (clash_in clash [] m (line + 1))) r.2
+            ∙ sym (found_else (clash_in clash [] m (line + 1)) (clash_from clash c (g + 1) k (line + 1 + length m)) (accepted n (groups 0 c) r.0)),
       )
 
   -- ---- the whole sheet
 
   abbrev begun : Progress
-  begun = record { begun = true; left = groups 0 c; need = 0; opened = 0; fresh = false; first = 0; floor = 0 }
+  begun = record { left = groups 0 c; need = 0; opened = 0; fresh = false; first = 0; floor = 0 }
 
   first_state : State 0 (groups 0 c) begun nobody (λ j. nobody j || nobody j) (no_colours_up_to most)
   first_state = record {
-    begun = refl;
     need = refl;
     left = refl;
     opened = refl;
@@ -323,7 +318,7 @@ module _ (most : ℕ) (c : List ℕ) (canon : Canon 0 c) (few : length c ≤ mos
   -- a written sheet, checked: 34 at the first clash, or accepted with the same k and the same group numbers
   pub sheet_up_to_read : (longest : ℕ) → length (sheet_text c) ≤ longest
       → (w : List ℕ) × (take (length c) w ≡ c) × (sheet_up_to most longest (length c) clash (sheet_text c)
-      ≡ found most (clash_line clash c) (accepted (length c) (groups 0 c) w))
+      ≡ found (clash_line clash c) (accepted (length c) (groups 0 c) w))
   unfolding sheet_text clash_line
   sheet_up_to_read longest short =
       let k = groups 0 c in
@@ -332,17 +327,17 @@ module _ (most : ℕ) (c : List ℕ) (canon : Canon 0 c) (few : length c ≤ mos
         r.0,
         r.1,
         rw (le-leb (length (sheet_text c)) longest short)
-            (ap (λ (x : Text). check_from_up_to most x n clash 1 start nobody nobody (no_colours_up_to most))
+            (ap (λ (x : Text). check_from x n clash 1 start nobody nobody (no_colours_up_to most))
             (one_back groups_word k (groups_text c 0 k) (
               (λ e. omega arith),
               ((λ e. omega arith), ((λ e. omega arith), ((λ e. omega arith), ((λ e. omega arith), ((λ e. omega arith), ((λ e. omega arith), tt)))))),
             ))
-            ∙ ap (λ (x : Step). after_up_to most x 1 nobody nobody (no_colours_up_to most) (check_from_up_to most (lines_of (groups_text c 0 k)) n clash 2))
-            (at_groups n clash start nobody nobody (groups_word ++ numeral k) (Only k) refl (alone_back k (omega arith)))
+            ∙ ap (λ (x : Result Step SheetFault). after x 1 nobody nobody (no_colours_up_to most) (check_from (lines_of (groups_text c 0 k)) n clash 2))
+            (at_groups n clash nobody nobody (groups_word ++ numeral k) (Some k) (alone_back k (omega arith)))
             ∙ r.2),
       )
 
 -- with today's limits every sheet is short enough
 pub sheet_read : (c : List ℕ) (canon : Canon 0 c) → length c ≤ most_entries → (clash : ℕ → ℕ → Bool)
-    → (w : List ℕ) × (take (length c) w ≡ c) × (sheet_of (length c) clash (sheet_text c) ≡ found most_entries (clash_line clash c) (accepted (length c) (groups 0 c) w))
+    → (w : List ℕ) × (take (length c) w ≡ c) × (sheet_of (length c) clash (sheet_text c) ≡ found (clash_line clash c) (accepted (length c) (groups 0 c) w))
 sheet_read c canon few clash = sheet_up_to_read most_entries c canon few (omega arith) clash longest_text (sheet_fits c canon few)

@@ -2,9 +2,7 @@
 use Prim.Native.Nat.{ℕ, suc, ◌+◌, ◌-◌, ◌≤◌, ◌<◌}
 use mathlib.Core.Path.{◌≡◌, refl, sym, ap, ◌∙◌}
 use mathlib.Core.List.{List, ◌++◌}
-use mathlib.Core.Bool.{Bool, cond}
 use native.Mathlib.Omega.{arith}
-use borrow.Author.Tests.{le-leb, lt-leb}
 use lib.ListN.{length, take, drop, length-append}
 use lib.Seq.{take_at}
 use Rattle.clashes.specs.Divisions.{groups}
@@ -12,11 +10,6 @@ use Rattle.lines.specs.Numeral.{one_line, Put}
 use Rattle.lines.proofs.Writing.{put_length, put_then}
 use Rattle.sheets.specs.Check.{groups_word}
 use Rattle.sheet_texts.specs.Sheet.{numbering, group_text, groups_text, sheet_text}
-use Rattle.sheet_texts.specs.Promise.{judged, answer_up_to, written, WritePromiseUpTo}
-use Rattle.sheet_texts.specs.declared.Numbering.{Numbering}
-use Rattle.sheet_texts.specs.declared.Numbering.TheVariants.{Used, Wrong}
-use Rattle.sheet_texts.specs.declared.Written.{Written}
-use Rattle.sheet_texts.specs.declared.Written.TheVariants.{Length, Many, Colours, Full}
 
 -- ---- two pieces
 
@@ -53,26 +46,3 @@ pub composed : (o x new : List ℕ) (n : ℕ) → Put o 0 x new n → take n new
 composed o x new n p =
     let e : length x ≡ n = omega (arith, p.0) in
     ap (take n) p.1 ∙ take_at x (drop (0 + length x) o) n e
-
-module _ (most : ℕ) (c old : List ℕ) where
-  pub wrote_many : most < length c → WritePromiseUpTo most c old Many old
-  wrote_many h = let e = lt-leb (length c) most h in record { answer = rw e; lent = rw e }
-
-  module _ (few : length c ≤ most) where
-    answer_is : {v : Numbering} → numbering c ≡ v → answer_up_to most c (length old) ≡ judged v (sheet_text c) (length old)
-    answer_is {v} e = ap (λ (b : Bool). cond b (judged (numbering c) (sheet_text c) (length old)) Many) (le-leb (length c) most few) ∙ ap (λ (n : Numbering). judged n (sheet_text c) (length old)) e
-
-    wrote : (a : Written) (new : List ℕ) → answer_up_to most c (length old) ≡ a → new ≡ written a (sheet_text c) old → WritePromiseUpTo most c old a new
-    wrote a new e w = record { answer = sym e; lent = w ∙ ap (λ (x : Written). written x (sheet_text c) old) (sym e) }
-
-    pub wrote_wrong : (i : ℕ) → numbering c ≡ Wrong i → WritePromiseUpTo most c old (Colours i) old
-    wrote_wrong i e = wrote (Colours i) old (answer_is e) refl
-
-    module _ (k : ℕ) (u : numbering c ≡ Used k) (n : ℕ) (l : n ≡ length (sheet_text c)) where
-      pub wrote_full : length old < n → WritePromiseUpTo most c old Full old
-      wrote_full h = wrote Full old (answer_is u ∙ rw (lt-leb (length (sheet_text c)) (length old) (omega arith))) refl
-
-      pub wrote_all : (new : List ℕ) (m : ℕ) → n ≤ length old → Put old 0 (sheet_text c) new m → WritePromiseUpTo most c old (Length m) new
-      wrote_all new m h p =
-          let e : m ≡ length (sheet_text c) = omega (arith, p.0) in
-          wrote (Length m) new (answer_is u ∙ rw (le-leb (length (sheet_text c)) (length old) (omega arith), e)) p.1

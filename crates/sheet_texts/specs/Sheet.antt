@@ -12,20 +12,18 @@
 --   clash_line c clash : the line of that sheet's first member that clashes with an earlier one of its group, if there is one
 --
 -- `numbering` goes by `Canon` and `groups` (proofs/FirstUse.antt). Assumes nothing.
-use Rattle.std.specs.Prelude.{ℕ, zero, suc, ◌+◌, max, List, [], ◌∷◌, ◌++◌, Bool, cond, length, leb, eqb}
+use Rattle.std.specs.Prelude.{ℕ, zero, suc, ◌+◌, max, List, [], ◌∷◌, ◌++◌, Bool, cond, length, leb, eqb, Result, Ok, Err}
 use Rattle.std.proofs.Math.Option.{Option, none, some}
 use Rattle.sets.specs.Lists.{put, some?}
 use Rattle.clashes.specs.Divisions.{groups}
 use Rattle.lines.specs.Numeral.{one_line}
 use Rattle.sheets.specs.Check.{groups_word, size_word}
-use Rattle.sheet_texts.specs.declared.Numbering.{Numbering}
-use Rattle.sheet_texts.specs.declared.Numbering.TheVariants.{Used, Wrong}
 
-abbrev pub number_from : ℕ → ℕ → List ℕ → Numbering
-number_from m i [] = Used m
-number_from m i (x ∷ c) = cond (leb x m) (number_from (max m (suc x)) (i + 1) c) (Wrong i)
+abbrev pub number_from : ℕ → ℕ → List ℕ → Result ℕ ℕ
+number_from m i [] = Ok m
+number_from m i (x ∷ c) = cond (leb x m) (number_from (max m (suc x)) (i + 1) c) (Err i)
 
-abbrev pub numbering : List ℕ → Numbering
+abbrev pub numbering : List ℕ → Result ℕ ℕ
 numbering c = number_from 0 0 c
 
 abbrev pub members_of : List ℕ → ℕ → ℕ → List ℕ

@@ -4,6 +4,7 @@
 #![tactic(auto)]
 
 ghost use Rattle.std.specs.Prelude.{◌≡◌, ◌+◌, ◌≤◌, ◌<◌, length, take};
+ghost use Rattle.refusals.specs.Table.{number_of};
 ghost use Rattle.clashes.specs.Divisions.{Canon, groups};
 ghost use Rattle.lines.specs.Numeral.{Put};
 ghost use Rattle.sheet_texts.specs.Sheet.{numbering, members_of, member_lines, group_text, groups_text, sheet_text};
@@ -14,10 +15,9 @@ use refusals::Refusal;
 // No list has more entries.
 const MOST: usize = 64;
 
-// The text's length; or document 01's refusals 1, 38 (with the lowest index at fault) and 19.
-#[derive(Clone, Copy)]
-pub enum Written {
-    Length(usize),
+// Why a sheet is not written: document 01's refusals 1, 38 (with the lowest index at fault) and 19.
+#[derive(Clone, Copy, PartialEq, Eq)]
+pub enum Unwritten {
     Many,
     Colours(usize),
     Full,
@@ -31,13 +31,6 @@ pub struct Numbers {
     pub length: usize,
 }
 
-// How many group numbers are used, each by first use from 0; or the lowest index at which one is not.
-#[derive(Clone, Copy)]
-pub enum Numbering {
-    Used(usize),
-    Wrong(usize),
-}
-
 // A sheet's bytes, and how many there are.
 #[derive(Clone, Copy)]
 pub struct Composed {
@@ -45,44 +38,41 @@ pub struct Composed {
     pub length: usize,
 }
 
-fn wide(b: u8) -> usize
-    ensures { result ≡ b }
-{
-    b as usize
+impl Composed {
+    // The sheet.
+    pub fn as_slice(&self) -> &[u8]
+        requires { self.now.length ≤ 768 }
+        ensures { result.now ≡ take self.now.length self.now.bytes }
+    {
+        &self.bytes[..self.length]
+    }
 }
 
-// Whether groups are numbered by first use from 0.
-fn number(colours: &[u8]) -> Numbering
+// How many group numbers are used, each by first use from 0; or the lowest index at which one is not.
+fn number(colours: &[u8]) -> Result<usize, usize>
     ensures { result ≡ numbering colours.now }
 {
     let mut used: usize = 0;
-    let mut i: usize = 0;
-    while i < colours.len() {
-        let g = wide(colours[i]);
+    for (i, &colour) in colours.iter().enumerate() {
+        let g = usize::from(colour);
         if used < g {
-            return Numbering::Wrong(i);
+            return Err(i);
         }
         if g == used {
             used += 1;
         }
-        i += 1;
     }
-    Numbering::Used(used)
+    Ok(used)
 }
 
 // How many members group g has.
 fn size_of(colours: &[u8], g: usize) -> usize
     ensures { (result ≡ length (members_of colours.now 0 g)) × (result ≤ length colours.now) }
 {
-    let mut size: usize = 0;
-    let mut i: usize = 0;
-    while i < colours.len() {
-        if wide(colours[i]) == g {
-            size += 1;
-        }
-        i += 1;
-    }
-    size
+    colours
+        .iter()
+        .filter(|&&colour| usize::from(colour) == g)
+        .count()
 }
 
 // Puts the members of group g at `at`, a line each.
@@ -91,12 +81,10 @@ fn put_members(out: &mut [u8], at: usize, colours: &[u8], g: usize) -> usize
     ensures { Put out.old at (member_lines (members_of colours.now 0 g)) out.new result }
 {
     let mut a = at;
-    let mut i: usize = 0;
-    while i < colours.len() {
-        if wide(colours[i]) == g {
+    for (i, &colour) in colours.iter().enumerate() {
+        if usize::from(colour) == g {
             a = lines::put_one(out, a, b"", i + 1);
         }
-        i += 1;
     }
     a
 }
@@ -117,10 +105,8 @@ fn put_groups(out: &mut [u8], at: usize, colours: &[u8], k: usize) -> usize
     ensures { Put out.old at (groups_text colours.now 0 k) out.new result }
 {
     let mut a = at;
-    let mut g: usize = 0;
-    while g < k {
+    for g in 0..k {
         a = put_group(out, a, colours, g);
-        g += 1;
     }
     a
 }
@@ -145,51 +131,47 @@ pub fn compose(colours: &[u8], k: usize) -> Composed
 }
 
 // Writes the sheet of these colour bytes.
-pub fn write_sheet(colours: &[u8], out: &mut [u8]) -> Written
+pub fn write_sheet(colours: &[u8], out: &mut [u8]) -> Result<usize, Unwritten>
     ensures { WritePromise colours.now out.old result out.new }
 {
     if MOST < colours.len() {
-        return Written::Many;
+        return Err(Unwritten::Many);
     }
-    match number(colours) {
-        Numbering::Wrong(i) => Written::Colours(i),
-        Numbering::Used(k) => {
-            let text = compose(colours, k);
-            let n = text.length;
-            if out.len() < n {
-                return Written::Full;
-            }
-            let bytes = text.bytes;
-            let length = lines::put_word(out, 0, &bytes[..n]);
-            Written::Length(length)
+    let k = number(colours).map_err(Unwritten::Colours)?;
+    let composed = compose(colours, k);
+    let text = composed.as_slice();
+    if out.len() < text.len() {
+        return Err(Unwritten::Full);
+    }
+    Ok(lines::put_word(out, 0, text))
+}
+
+impl Numbers {
+    // The numbers of a refusal, with the index that it names.
+    fn refused(why: Refusal, index: usize) -> Numbers
+        ensures { (result.number ≡ number_of why) × (result.index ≡ index) × (result.length ≡ 0) }
+    {
+        Numbers {
+            number: why.number(),
+            index,
+            length: 0,
         }
     }
 }
 
-// Document 01's numbers of an answer.
-pub fn numbers_of(answer: Written) -> Numbers
-    ensures { result ≡ numbers_of_lem answer }
-{
-    match answer {
-        Written::Length(k) => Numbers {
-            number: 0,
-            index: 0,
-            length: k,
-        },
-        Written::Many => Numbers {
-            number: refusals::number(Refusal::Many),
-            index: 0,
-            length: 0,
-        },
-        Written::Colours(i) => Numbers {
-            number: refusals::number(Refusal::Colours),
-            index: i,
-            length: 0,
-        },
-        Written::Full => Numbers {
-            number: refusals::number(Refusal::Full),
-            index: 0,
-            length: 0,
-        },
+impl From<Result<usize, Unwritten>> for Numbers {
+    ghost from_gives = { λ x y. y ≡ numbers_of_lem x };
+
+    fn from(answer: Result<usize, Unwritten>) -> Numbers {
+        match answer {
+            Ok(length) => Numbers {
+                number: 0,
+                index: 0,
+                length,
+            },
+            Err(Unwritten::Many) => Numbers::refused(Refusal::Many, 0),
+            Err(Unwritten::Colours(index)) => Numbers::refused(Refusal::Colours, index),
+            Err(Unwritten::Full) => Numbers::refused(Refusal::Full, 0),
+        }
     }
 }

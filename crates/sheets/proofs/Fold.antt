@@ -7,43 +7,40 @@ use native.Mathlib.Omega.{arith}
 use borrow.Author.Tests.{leb-true, leb-false, ltb-true, lt-leb, le-leb}
 use lib.Dec.{leb, ltb}
 use lib.ListN.{length, take, drop, set, length-set, drop_of_length-le}
+use Rattle.std.specs.Prelude.{Option, Some, None, Result, Ok, Err, IfSome}
 use Rattle.sets.specs.Lists.{bit, any}
 use Rattle.sets.specs.Set.{has, IsWith, IsJoin}
 use Rattle.lines.specs.Text.{Text, lines_of, line_end_lem}
 use Rattle.lines.specs.Words.{alone_of}
-use Rattle.lines.specs.declared.Alone.{Alone}
-use Rattle.lines.specs.declared.Alone.TheVariants.{Only, Other}
 use Rattle.lines.proofs.Basics.{cond_cases}
 use Rattle.lines.proofs.Lines.{line_ended, line_unended}
 use Rattle.lists.specs.Read.{inside}
 use Rattle.lists.proofs.Fold.{inside_is}
-use Rattle.sheets.specs.Check.{no_colours_up_to, refused_up_to, size_word, groups_word, behind_of, groups_of, size_of, placed, member_of_lem, step_of, finish_up_to, cut_up_to, none, after_up_to, check_from_up_to, start, sheet_up_to}
+use Rattle.sheets.specs.Check.{no_colours_up_to, refused, size_word, groups_word, behind_of, groups_of, size_of, placed, member_of_lem, step_of, finish, cut, none, after, check_from, start, sheet_up_to}
 use Rattle.sheets.specs.Sound.{SoundUpTo, Within}
+use Rattle.sheets.specs.declared.SheetFault.{SheetFault}
 use Rattle.sheets.specs.declared.SheetFault.TheVariants.{Long}
 use Rattle.sheets.specs.declared.Progress.{Progress}
 use Rattle.sheets.specs.declared.Step.{Step}
-use Rattle.sheets.specs.declared.Step.TheVariants.{Stop, Count, Place}
+use Rattle.sheets.specs.declared.Step.TheVariants.{Count, Place}
 use Rattle.sheets.proofs.Sets.{empty_is, empty_within, with_within}
 
 module _ (most : ℕ) where
   -- ---- what a line keeps
 
-  abbrev pub Kept : ℕ → Step → Type 0
-  Kept n (Stop f) = Unit {0}
-  Kept n (Count p) = SoundUpTo most p
-  Kept n (Place p i g) = SoundUpTo most p × (i < n) × (g < most)
+  abbrev pub Kept : ℕ → Result Step SheetFault → Type 0
+  Kept n (Err f) = Unit {0}
+  Kept n (Ok (Count p)) = SoundUpTo most p
+  Kept n (Ok (Place p i g)) = SoundUpTo most p × (i < n) × (g < most)
 
-  pub start_sound : SoundUpTo most start
-  start_sound = record { rises = omega arith; floored = omega arith; wants = omega arith; small = omega arith; inside = λ h. h }
-
-  groups_kept : (n : ℕ) (a : Alone) → Kept n (groups_of a)
-  groups_kept n Other = tt
-  groups_kept n (Only k) = record { rises = omega arith; floored = omega arith; wants = omega arith; small = omega arith; inside = λ h. h }
+  groups_kept : (n : ℕ) (a : Option ℕ) → Kept n (groups_of a)
+  groups_kept n None = tt
+  groups_kept n (Some k) = record { rises = omega arith; floored = omega arith; wants = omega arith; small = omega arith; inside = λ h. h }
 
   module _ (n : ℕ) (few : n ≤ most) (p : Progress) (s : SoundUpTo most p) where
-    size_kept : p.need < 1 → (a : Alone) → Kept n (size_of p a)
-    size_kept z Other = tt
-    size_kept z (Only k) =
+    size_kept : p.need < 1 → (a : Option ℕ) → Kept n (size_of p a)
+    size_kept z None = tt
+    size_kept z (Some k) =
         cond_cases (Kept n) (leb 1 k) _ _
         (λ e. record {
           rises = omega (arith, s.rises, s.wants);
@@ -65,9 +62,9 @@ module _ (most : ℕ) where
         let r = first_kept u p.fresh s.rises s.floored f h in
         (record { rises = r.0; floored = r.1; wants = omega arith; small = r.2; inside = λ _. s.inside d }, omega arith, omega (arith, s.rises, s.floored))
 
-    member_kept : (clash : ℕ → ℕ → Bool) (mates earlier : ℕ → Bool) → 1 ≤ p.need → (a : Alone) → Kept n (member_of_lem n clash p mates earlier a)
-    member_kept clash mates earlier d Other = tt
-    member_kept clash mates earlier d (Only u) =
+    member_kept : (clash : ℕ → ℕ → Bool) (mates earlier : ℕ → Bool) → 1 ≤ p.need → (a : Option ℕ) → Kept n (member_of_lem n clash p mates earlier a)
+    member_kept clash mates earlier d None = tt
+    member_kept clash mates earlier d (Some u) =
         cond_cases (Kept n) (inside n u) _ _
         (λ i. cond_cases (Kept n) (ltb p.floor u) _ _
         (λ f. cond_cases (Kept n) (earlier (u - 1)) _ _ (λ _. tt)
@@ -76,69 +73,69 @@ module _ (most : ℕ) where
         (λ _. tt))
         (λ _. tt)
 
-    pub step_kept : (clash : ℕ → ℕ → Bool) (mates earlier : ℕ → Bool) (l : List ℕ) → Kept n (step_of n clash p mates earlier l)
-    step_kept clash mates earlier l =
-        cond_cases (Kept n) p.begun _ _
-        (λ _. cond_cases (Kept n) (leb 1 p.need) _ _
-        (λ e. member_kept clash mates earlier (leb-true 1 p.need e) (alone_of l))
-        (λ e. cond_cases (Kept n) (leb 1 p.left) _ _ (λ _. size_kept (leb-false 1 p.need e) (behind_of size_word l)) (λ _. tt)))
-        (λ _. groups_kept n (behind_of groups_word l))
+  pub step_kept : (n : ℕ) → n ≤ most → (p : Option Progress) → IfSome p (SoundUpTo most) → (clash : ℕ → ℕ → Bool) (mates earlier : ℕ → Bool) (l : List ℕ)
+      → Kept n (step_of n clash p mates earlier l)
+  step_kept n few None s clash mates earlier l = groups_kept n (behind_of groups_word l)
+  step_kept n few (Some p) s clash mates earlier l =
+      cond_cases (Kept n) (leb 1 p.need) _ _
+      (λ e. member_kept n few p s clash mates earlier (leb-true 1 p.need e) (alone_of l))
+      (λ e. cond_cases (Kept n) (leb 1 p.left) _ _ (λ _. size_kept n few p s (leb-false 1 p.need e) (behind_of size_word l)) (λ _. tt))
 
   -- ---- the loop's places
 
   module _ (s : List ℕ) (n : ℕ) (clash : ℕ → ℕ → Bool) where
-    pub check_halts : (a e k : ℕ) (p : Progress) (m w : ℕ → Bool) (g : List ℕ) → e ≡ line_end_lem s a → a < length s → length s ≤ e
-        → check_from_up_to most (lines_of (drop a s)) n clash k p m w g ≡ cut_up_to most p k
-    check_halts a e k p m w g q i l = ap (λ (t : Text). check_from_up_to most t n clash k p m w g) (line_unended s a e q i l)
+    pub check_halts : (a e k : ℕ) (p : Option Progress) (m w : ℕ → Bool) (g : List ℕ) → e ≡ line_end_lem s a → a < length s → length s ≤ e
+        → check_from (lines_of (drop a s)) n clash k p m w g ≡ Err (cut p k)
+    check_halts a e k p m w g q i l = ap (λ (t : Text). check_from t n clash k p m w g) (line_unended s a e q i l)
 
-    pub check_ends : (a k : ℕ) (p : Progress) (m w : ℕ → Bool) (g : List ℕ) → length s ≤ a → check_from_up_to most (lines_of (drop a s)) n clash k p m w g ≡ finish_up_to most n p m w g k
+    pub check_ends : (a k : ℕ) (p : Option Progress) (m w : ℕ → Bool) (g : List ℕ) → length s ≤ a → check_from (lines_of (drop a s)) n clash k p m w g ≡ finish n p m w g k
     check_ends a k p m w g l = rw (drop_of_length-le s l)
 
-    pub check_short : (longest : ℕ) → length s ≤ longest → check_from_up_to most (lines_of s) n clash 1 start none none (no_colours_up_to most) ≡ sheet_up_to most longest n clash s
-    check_short longest l = sym (ap (λ (b : Bool). cond b (check_from_up_to most (lines_of s) n clash 1 start none none (no_colours_up_to most)) (refused_up_to most Long 0)) (le-leb _ _ l))
+    pub check_short : (longest : ℕ) → length s ≤ longest → check_from (lines_of s) n clash 1 start none none (no_colours_up_to most) ≡ sheet_up_to most longest n clash s
+    check_short longest l = sym (ap (λ (b : Bool). cond b (check_from (lines_of s) n clash 1 start none none (no_colours_up_to most)) (refused Long 0)) (le-leb _ _ l))
 
-    pub check_long : (longest : ℕ) → longest < length s → sheet_up_to most longest n clash s ≡ refused_up_to most Long 0
+    pub check_long : (longest : ℕ) → longest < length s → sheet_up_to most longest n clash s ≡ refused Long 0
     check_long longest l = rw (lt-leb (length s) longest l)
 
     -- a line that is ended at e, and what it does
-    module _ (a e k : ℕ) (p : Progress) (m w : ℕ) (g : List ℕ) (q : e ≡ line_end_lem s a) (l : e < length s) where
-      pub turn : (st : Step) → step_of n clash p (has m) (has w) (take (e - a) (drop a s)) ≡ st
-          → check_from_up_to most (lines_of (drop a s)) n clash k p (has m) (has w) g ≡ after_up_to most st k (has m) (has w) g (check_from_up_to most (lines_of (drop (e + 1) s)) n clash (k + 1))
+    module _ (a e k : ℕ) (p : Option Progress) (m w : ℕ) (g : List ℕ) (q : e ≡ line_end_lem s a) (l : e < length s) where
+      pub turn : (st : Result Step SheetFault) → step_of n clash p (has m) (has w) (take (e - a) (drop a s)) ≡ st
+          → check_from (lines_of (drop a s)) n clash k p (has m) (has w) g ≡ after st k (has m) (has w) g (check_from (lines_of (drop (e + 1) s)) n clash (k + 1))
       turn st x =
-          ap (λ (t : Text). check_from_up_to most t n clash k p (has m) (has w) g) (line_ended s a e q l)
-          ∙ ap (λ (y : Step). after_up_to most y k (has m) (has w) g (check_from_up_to most (lines_of (drop (e + 1) s)) n clash (k + 1))) x
+          ap (λ (t : Text). check_from t n clash k p (has m) (has w) g) (line_ended s a e q l)
+          ∙ ap (λ (y : Result Step SheetFault). after y k (has m) (has w) g (check_from (lines_of (drop (e + 1) s)) n clash (k + 1))) x
 
       -- the rest of the sheet, with what is known next, is what it was
-      pub record Turned (p' : Progress) (m' w' : ℕ) (g' : List ℕ) : Type 0 where
-        pub sound : SoundUpTo most p'
+      pub record Turned (p' : Option Progress) (m' w' : ℕ) (g' : List ℕ) : Type 0 where
+        pub sound : IfSome p' (SoundUpTo most)
         pub within : Within n m'
         pub size : length g' ≡ most
-        pub same : check_from_up_to most (lines_of (drop (e + 1) s)) n clash (k + 1) p' (has m') (has w') g' ≡ check_from_up_to most (lines_of (drop a s)) n clash k p (has m) (has w) g
+        pub same : check_from (lines_of (drop (e + 1) s)) n clash (k + 1) p' (has m') (has w') g' ≡ check_from (lines_of (drop a s)) n clash k p (has m) (has w) g
 
-      module _ (few : n ≤ most) (z : length g ≡ most) (i : Within n m) (so : SoundUpTo most p) where
-        keeps : (st : Step) → step_of n clash p (has m) (has w) (take (e - a) (drop a s)) ≡ st → Kept n st
+      module _ (few : n ≤ most) (z : length g ≡ most) (i : Within n m) (so : IfSome p (SoundUpTo most)) where
+        keeps : (st : Result Step SheetFault) → step_of n clash p (has m) (has w) (take (e - a) (drop a s)) ≡ st → Kept n st
         keeps st x = subst (Kept n) x (step_kept n few p so clash (has m) (has w) (take (e - a) (drop a s)))
 
-        pub place_below : (p₁ : Progress) (j c : ℕ) → step_of n clash p (has m) (has w) (take (e - a) (drop a s)) ≡ Place p₁ j c → j < most
-        place_below p₁ j c x = omega (arith, (keeps (Place p₁ j c) x).1)
+        pub place_below : (p₁ : Progress) (j c : ℕ) → step_of n clash p (has m) (has w) (take (e - a) (drop a s)) ≡ Ok (Place p₁ j c) → j < most
+        place_below p₁ j c x = omega (arith, (keeps (Ok (Place p₁ j c)) x).1)
 
-        pub turned_count : (p₁ : Progress) → step_of n clash p (has m) (has w) (take (e - a) (drop a s)) ≡ Count p₁
-            → (p' : Progress) (m' w' w₁ : ℕ) (g' : List ℕ) → IsJoin w m w₁ → g' ≡ g → p' ≡ p₁ → m' ≡ 0 → w' ≡ w₁ → Turned p' m' w' g'
+        pub turned_count : (p₁ : Progress) → step_of n clash p (has m) (has w) (take (e - a) (drop a s)) ≡ Ok (Count p₁)
+            → (p' : Option Progress) (m' w' w₁ : ℕ) (g' : List ℕ) → IsJoin w m w₁ → g' ≡ g → p' ≡ Some p₁ → m' ≡ 0 → w' ≡ w₁ → Turned p' m' w' g'
         turned_count p₁ x p' m' w' w₁ g' U eg ep em ew =
             rw (eg, ep, em, ew) (record {
-              sound = keeps (Count p₁) x;
+              sound = keeps (Ok (Count p₁)) x;
               within = empty_within n;
               size = z;
-              same = rw (empty_is, fun_ext U) (sym (turn (Count p₁) x));
+              same = rw (empty_is, fun_ext U) (sym (turn (Ok (Count p₁)) x));
             })
 
-        pub turned_place : (p₁ : Progress) (j c : ℕ) → step_of n clash p (has m) (has w) (take (e - a) (drop a s)) ≡ Place p₁ j c
-            → (p' : Progress) (m' w' m₁ : ℕ) (g' : List ℕ) → IsWith m j m₁ → g' ≡ set g j c → p' ≡ p₁ → m' ≡ m₁ → w' ≡ w → Turned p' m' w' g'
+        pub turned_place : (p₁ : Progress) (j c : ℕ) → step_of n clash p (has m) (has w) (take (e - a) (drop a s)) ≡ Ok (Place p₁ j c)
+            → (p' : Option Progress) (m' w' m₁ : ℕ) (g' : List ℕ) → IsWith m j m₁ → g' ≡ set g j c → p' ≡ Some p₁ → m' ≡ m₁ → w' ≡ w → Turned p' m' w' g'
         turned_place p₁ j c x p' m' w' m₁ g' U eg ep em ew =
-            let d = keeps (Place p₁ j c) x in
+            let d = keeps (Ok (Place p₁ j c)) x in
             rw (eg, ep, em, ew) (record {
               sound = d.0;
               within = with_within n m j m₁ d.1 U i;
               size = length-set g j c ∙ z;
-              same = rw (fun_ext U) (sym (turn (Place p₁ j c) x));
+              same = rw (fun_ext U) (sym (turn (Ok (Place p₁ j c)) x));
             })

@@ -12,16 +12,17 @@ use Rattle.std.specs.Prelude.{ℕ, zero, suc, ◌-◌, ◌≡◌, List, Bool}
 use Rattle.lines.specs.Text.{place_of, line_end_lem}
 use Rattle.lists.specs.Read.{most_entries, longest_text}
 use Rattle.sheets.specs.Check.{check_up_to}
-use Rattle.sheets.specs.Promise.{held_by, numbers_of_lem}
+use Rattle.sheets.specs.Promise.{held_by, answer_in, numbers_of_lem}
 use Rattle.sheets.specs.declared.Part.{Part}
+use Rattle.sheets.specs.declared.Text.{Text}
 
-abbrev pub part_at : ℕ → List ℕ → ℕ → Part
+abbrev pub part_at : Text → List ℕ → ℕ → Part
 part_at t s zero = record { text = t; start = 0; length = 0 }
 part_at t s (suc k) = record { text = t; start = place_of s k; length = line_end_lem s (place_of s k) - place_of s k }
 
 abbrev pub fault_part_up_to : Bool → ℕ → ℕ → List ℕ → List ℕ → ℕ → Part
 fault_part_up_to plain most longest list s room =
-    let m = numbers_of_lem (check_up_to plain most longest list s room).answer in
+    let m = numbers_of_lem (answer_in (check_up_to plain most longest list s room)) in
     part_at m.text (held_by m.text list s) m.line
 
 abbrev pub PlacePromiseUpTo : Bool → ℕ → ℕ → List ℕ → List ℕ → ℕ → Part → Type 0

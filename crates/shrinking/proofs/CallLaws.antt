@@ -5,11 +5,13 @@ use mathlib.Core.List.{List, [], ◌∷◌, ◌++◌}
 use Prim.Native.Nat.{ℕ, ◌+◌, ◌≤◌, ◌<◌, max}
 use native.Mathlib.Decide.{ℕ_discrete}
 use native.Mathlib.Omega.{arith}
-use types.Run.{OneOf, miss}
-use denote.Enum.Declared.{tag_of}
 use lib.Dec.{T, eqb, ltb, ltb→lt, lt→ltb}
 use lib.ListN.{length, take, drop}
 use lib.Seq.{take_at, drop_at, get_or-take, length-take-le}
+use Rattle.std.specs.Prelude.{Ok, Err}
+use Rattle.refusals.specs.declared.Invalid.TheVariants.{Many, Stray, Itself, OneSided}
+use Rattle.refusals.specs.declared.Unsolved.{Unsolved}
+use Rattle.refusals.specs.declared.Unsolved.TheVariants.{OfRows, Short, Budget}
 use Rattle.sets.specs.Lists.{members}
 use Rattle.sets.specs.Set.{has, size}
 use Rattle.sets.proofs.MemberLaws.{members_count, members_agree, members_narrow}
@@ -28,9 +30,7 @@ use Rattle.graphs.proofs.LoopLaws.{size_le}
 use Rattle.zykov.specs.Walk.{State, bounded_walk_lem}
 use Rattle.zykov.specs.Walk as walk
 use Rattle.walk.specs.Promise.{PromisedUpTo}
-use Rattle.walk.specs.declared.Answer.{Answer}
-use Rattle.walk.specs.declared.Answer.TheVariants.{Accepted, Many, Stray, Itself, OneSided, Short, Budget}
-use Rattle.walk.specs.contracts.Answer.{the_type}
+use Rattle.walk.specs.declared.found.Fewest.{Fewest}
 use Rattle.walk.proofs.Answers.{mycielskian_bound}
 use Rattle.shrink.specs.Rules.{Removal, left, everyone, gone, among}
 use Rattle.shrink.specs.Rules as rules
@@ -60,7 +60,7 @@ module _ (most : ℕ) (rows : List ℕ) (sound : SoundUpTo most rows) (s : Shrun
   L = of_list mycielskian rows
 
   abbrev rs : List Removal
-  rs = removed s.who s.other s.gone
+  rs = removed s.went s.gone
 
   -- how many stay
   abbrev m : ℕ
@@ -136,21 +136,22 @@ module _ (most : ℕ) (rows : List ℕ) (sound : SoundUpTo most rows) (s : Shrun
 
       -- ---- refused
 
-      pub shrunk_refused : m ≤ length inner → (a : Answer) → OneOf (1 ∷ 2 ∷ 3 ∷ 4 ∷ 5 ∷ 6 ∷ []) (tag_of the_type a)
-          → PromisedUpTo most (bounded_walk_lem mycielskian) lent inner budget a inner'
-          → PromisedUpTo most (shrunk_walk mycielskian) rows before budget a before
-      shrunk_refused b (Accepted k c l q) f p = absurd (miss (1 ∷ 2 ∷ 3 ∷ 4 ∷ 5 ∷ 6 ∷ []) 0 tt f)
-      shrunk_refused b Many f p = absurd (let z : ⊥ = omega (arith, p.0, small_sound.apart.inside.few) in z)
-      shrunk_refused b (Stray i) f p = absurd (small_sound.apart.inside.no_stray i p.0.1.below p.0.1.here)
-      shrunk_refused b (Itself i) f p = absurd (small_sound.apart.no_itself i p.0.1.below p.0.1.here)
-      shrunk_refused b (OneSided i) f p = absurd (small_sound.no_one_sided i p.0.1.below p.0.1.here)
-      shrunk_refused b Short f p = absurd (let z : ⊥ = omega (arith, p.0.bytes, small_long) in z)
-      shrunk_refused b (Budget c) f p =
+      pub shrunk_refused : m ≤ length inner → (e : Unsolved) → PromisedUpTo most (bounded_walk_lem mycielskian) lent inner budget (Err e) inner'
+          → PromisedUpTo most (shrunk_walk mycielskian) rows before budget (Err e) before
+      shrunk_refused b (OfRows Many) p = absurd (let z : ⊥ = omega (arith, p.0, small_sound.apart.inside.few) in z)
+      shrunk_refused b (OfRows (Stray i)) p = absurd (small_sound.apart.inside.no_stray i p.0.1.below p.0.1.here)
+      shrunk_refused b (OfRows (Itself i)) p = absurd (small_sound.apart.no_itself i p.0.1.below p.0.1.here)
+      shrunk_refused b (OfRows (OneSided i)) p = absurd (small_sound.no_one_sided i p.0.1.below p.0.1.here)
+      shrunk_refused b Short p = absurd (let z : ⊥ = omega (arith, p.0.bytes, small_long) in z)
+      shrunk_refused b (Budget c) p =
           (record { opened = opened; all = p.0.all; more = subst (λ (d : State). budget < d.nodes) small_walk p.0.more }, refl)
 
       -- ---- accepted
 
-      module _ (k nodes leaves c : ℕ) (p : PromisedUpTo most (bounded_walk_lem mycielskian) lent inner budget (Accepted k nodes leaves c) inner') where
+      module _ (f : Fewest) (p : PromisedUpTo most (bounded_walk_lem mycielskian) lent inner budget (Ok f) inner') where
+        abbrev k : ℕ
+        k = f.k
+
         -- the shrunk list's division
         abbrev best : List ℕ
         best = take m inner'
@@ -209,7 +210,7 @@ module _ (most : ℕ) (rows : List ℕ) (sound : SoundUpTo most rows) (s : Shrun
           seats_ok =
               alike_fits n clash (left (everyone n) rs) (spread n l best) (seating_of seats) seats_alike (omega (arith, h.long_group, few)) spread_ok
 
-          pub returning : Returning most rows s.who s.other s.gone seats
+          pub returning : Returning most rows s.went s.gone seats
           returning = record {
             few = few;
             valid = valid;
@@ -222,7 +223,7 @@ module _ (most : ℕ) (rows : List ℕ) (sound : SoundUpTo most rows) (s : Shrun
             long_sets = h.long_sets;
           }
 
-          module _ (full : Seats) (b : Returned most rows s.who s.other s.gone seats full) where
+          module _ (full : Seats) (b : Returned most rows s.went s.gone seats full) where
             full_ok : Fits n clash (everyone n) (seating_of full)
             full_ok = subst (Fits n clash (everyone n)) (sym b.is) (back_fits n clash L valid (everyone n) rs steps (seating_of seats) seats_ok)
 
@@ -250,7 +251,7 @@ module _ (most : ℕ) (rows : List ℕ) (sound : SoundUpTo most rows) (s : Shrun
                 ∙ ap (whole L n clash) best_is
 
             pub shrunk_accepts : (j q : ℕ) → j ≡ cond s.few (max L k) k → q ≡ of_list clique_set rows
-                → PromisedUpTo most (shrunk_walk mycielskian) rows before budget (Accepted j nodes leaves q)
+                → PromisedUpTo most (shrunk_walk mycielskian) rows before budget (Ok (record { k = j; nodes = f.nodes; leaves = f.leaves; clique = q }))
                 (division ℕ_discrete n (at full.group) ++ drop n before)
             shrunk_accepts j q e shown = record {
               opened = opened;

@@ -20,9 +20,8 @@ use Rattle.bounds.specs.Names.{clique_set, mycielskian}
 use Rattle.bounds.specs.Lent.{of_list, AllClash}
 use Rattle.bounds.proofs.BoundLaws.{mycielskian_chromatic}
 use Rattle.zykov.specs.Walk as walks
-use Rattle.walk.specs.Promise.{PromisedUpTo, answer_up_to}
-use Rattle.walk.specs.declared.Answer.{Answer}
-use Rattle.walk.specs.declared.Answer.TheVariants.{Accepted}
+use Rattle.std.specs.Prelude.{Ok}
+use Rattle.walk.specs.Promise.{Answer, PromisedUpTo, answer_up_to}
 use Rattle.walk.proofs.Answers.{mycielskian_bound}
 use Rattle.walk.proofs.Demands as any
 use Rattle.shrink.specs.Rules.{gone}
@@ -46,7 +45,7 @@ module _ (most : ℕ) (rows before : List ℕ) (budget : ℕ) where
       let v = sound_valid rows s in
       laws.shrunk_count mycielskian mycielskian_bound (length rows) (matrix rows) v (mycielskian_chromatic (length rows) (matrix rows) v)
 
-  module _ (k m l c : ℕ) (after : List ℕ) (p : PromisedUpTo most (shrunk_walk mycielskian) rows before budget (Accepted k m l c) after) where
+  module _ (k m l c : ℕ) (after : List ℕ) (p : PromisedUpTo most (shrunk_walk mycielskian) rows before budget (Ok (record { k = k; nodes = m; leaves = l; clique = c })) after) where
     abbrev n : ℕ
     n = length rows
 
@@ -88,6 +87,6 @@ module _ (most : ℕ) (rows before : List ℕ) (budget : ℕ) where
   -- So a budget of 2 P - 1 or more is never refused.
   pub shrunk_ample : (a : Answer) (after : List ℕ) → PromisedUpTo most (shrunk_walk mycielskian) rows before budget a after
       → OpenUpTo most rows (length before)
-      → 2 * free_divisions (length rows) (matrix rows) ≤ suc budget → (k m l c : ℕ) × (a ≡ Accepted k m l c)
+      → 2 * free_divisions (length rows) (matrix rows) ≤ suc budget → (k m l c : ℕ) × (a ≡ Ok (record { k = k; nodes = m; leaves = l; clique = c }))
   shrunk_ample a after p room b =
       (_, _, _, _, any.accepted_within most (shrunk_walk mycielskian) rows before budget a after p room (omega (arith, counted room.sound)))

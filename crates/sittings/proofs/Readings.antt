@@ -5,32 +5,35 @@ use mathlib.Core.Bool.{true, false}
 use mathlib.Core.List.{List}
 use Prim.Native.Nat.{ℕ}
 use lib.ListN.{take}
+use Rattle.std.specs.Prelude.{Result, Ok, Err}
 use Rattle.lists.specs.Promise.{ReadPromise, WritePromise}
 use Rattle.lists.specs.declared.Fault.TheVariants.{Repeat}
-use Rattle.lists.specs.declared.Reading.{Reading}
-use Rattle.lists.specs.declared.Reading.TheVariants.{Read, Refused}
-use Rattle.lists.specs.declared.Written.TheVariants.{Length}
+use Rattle.lists.specs.declared.Unread.{Unread}
 use Rattle.lists.proofs.Calls as lists
 use Rattle.sheets.specs.Promise.{CheckPromise}
-use Rattle.sheets.specs.declared.Checked.{Checked}
-use Rattle.sheets.specs.declared.Checked.TheVariants.{Unread}
+use Rattle.sheets.specs.declared.Unchecked.{Unchecked}
+use Rattle.sheets.specs.declared.Unchecked.TheVariants.{OfList}
 use Rattle.sheets.proofs.Alike as sheets
 
+-- a text's refusal for a repeat in line k
+abbrev pub repeated : ℕ → Unread
+repeated k = record { why = Repeat; line = k; column = 0 }
+
 -- whatever rows are lent
-pub written_alike : (rows old out lent : List ℕ) (k : ℕ) (a b : Reading) (new other : List ℕ) → WritePromise rows old (Length k) out
+pub written_alike : (rows old out lent : List ℕ) (k : ℕ) (a b : Result ℕ Unread) (new other : List ℕ) → WritePromise rows old (Ok k) out
     → ReadPromise true (take k out) lent a new → ReadPromise false (take k out) lent b other → (a ≡ b) × (new ≡ other)
 written_alike rows old out lent k a b new other = lists.calls_alike lent a b new other true false rows old out k
 
-pub accepted_alike : (text lent : List ℕ) (n : ℕ) (b : Reading) (new other : List ℕ) → ReadPromise true text lent (Read n) new
+pub accepted_alike : (text lent : List ℕ) (n : ℕ) (b : Result ℕ Unread) (new other : List ℕ) → ReadPromise true text lent (Ok n) new
     → ReadPromise false text lent b other
-    → (b ≡ Read n) × (other ≡ new)
+    → (b ≡ Ok n) × (other ≡ new)
 accepted_alike = lists.accepted_alike
 
-pub read_alike : (text lent : List ℕ) (a b : Reading) (new other : List ℕ) → ReadPromise true text lent a new → ReadPromise false text lent b other
-    → ((k : ℕ) → ¬ (a ≡ Refused Repeat k 0)) → (a ≡ b) × (new ≡ other)
+pub read_alike : (text lent : List ℕ) (a b : Result ℕ Unread) (new other : List ℕ) → ReadPromise true text lent a new → ReadPromise false text lent b other
+    → ((k : ℕ) → ¬ (a ≡ Err (repeated k))) → (a ≡ b) × (new ≡ other)
 read_alike text lent a b new other = lists.reads_alike lent a b new other text
 
-pub checked_alike : (list sheet lent : List ℕ) (a b : Checked) (new other : List ℕ) → CheckPromise true list sheet lent a new
+pub checked_alike : (list sheet lent : List ℕ) (a b : Result ℕ Unchecked) (new other : List ℕ) → CheckPromise true list sheet lent a new
     → CheckPromise false list sheet lent b other
-    → ((k : ℕ) → ¬ (a ≡ Unread Repeat k 0)) → (a ≡ b) × (new ≡ other)
+    → ((k : ℕ) → ¬ (a ≡ Err (OfList (repeated k)))) → (a ≡ b) × (new ≡ other)
 checked_alike = sheets.checks_alike

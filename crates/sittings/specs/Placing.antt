@@ -5,28 +5,22 @@
 --   PlacingPromise  : some answer that the engine promises is shown as a, and `after` are the lent bytes as it leaves them
 --
 -- Stated for lists of up to `most` entries (`PlacingPromiseUpTo most`), and named for today's 64. Assumes nothing.
-use Rattle.std.specs.Prelude.{◌≡◌, List, ℕ}
+use Rattle.std.specs.Prelude.{◌≡◌, List, ℕ, Result, Ok, Err}
+use Rattle.refusals.specs.declared.Unsolved.{Unsolved}
 use Rattle.bounds.specs.Names.{clique_set}
 use Rattle.bounds.specs.Lent.{of_list}
-use Rattle.walk.specs.declared.Answer.{Answer}
-use Rattle.walk.specs.declared.Answer.TheVariants.{Accepted, Many, Stray, Itself, OneSided, Short, Budget}
+use Rattle.walk.specs.declared.found.Fewest.{Fewest}
 use Rattle.placing.specs.Promise.{PromisedUpTo}
-use Rattle.placing.specs.declared.Answer as engine
-use Rattle.placing.specs.declared.Answer.TheVariants.{Accepted as found, Many as many, Stray as stray, Itself as itself, OneSided as one_sided, Short as short, Budget as spent}
+use Rattle.placing.specs.declared.Placing.{Placing}
 
-abbrev pub shown : List ℕ → engine.Answer → Answer
-shown rows (found k m) = Accepted k m 0 (of_list clique_set rows)
-shown rows many = Many
-shown rows (stray i) = Stray i
-shown rows (itself i) = Itself i
-shown rows (one_sided i) = OneSided i
-shown rows short = Short
-shown rows (spent m) = Budget m
+abbrev pub shown : List ℕ → Result Placing Unsolved → Result Fewest Unsolved
+shown rows (Ok p) = Ok (record { k = p.k; nodes = p.nodes; leaves = 0; clique = of_list clique_set rows })
+shown rows (Err w) = Err w
 
-pub record PlacingPromiseUpTo (most : ℕ) (rows before : List ℕ) (budget : ℕ) (a : Answer) (after : List ℕ) : Type 0 where
-  pub engine : engine.Answer
+pub record PlacingPromiseUpTo (most : ℕ) (rows before : List ℕ) (budget : ℕ) (a : Result Fewest Unsolved) (after : List ℕ) : Type 0 where
+  pub engine : Result Placing Unsolved
   pub promised : PromisedUpTo most rows before budget engine after
   pub is : a ≡ shown rows engine
 
-abbrev pub PlacingPromise : List ℕ → List ℕ → ℕ → Answer → List ℕ → Type 0
+abbrev pub PlacingPromise : List ℕ → List ℕ → ℕ → Result Fewest Unsolved → List ℕ → Type 0
 PlacingPromise rows before budget a after = PlacingPromiseUpTo 64 rows before budget a after

@@ -1,15 +1,14 @@
 // Document 01's numbers of each answer, for callers that go by numbers: other languages, and the program.
 ghost use Rattle.std.specs.Prelude.{◌≡◌};
-ghost use Rattle.sittings.specs.Numbers.{verdict_numbers, refused_bound_lem, bound_numbers, refused_walk_lem, walk_numbers, read_numbers, list_numbers, sheet_numbers, check_numbers, mend_numbers, part_numbers, printed_numbers};
+ghost use Rattle.sittings.specs.Numbers.{verdict_numbers, bound_numbers, refused_walk_lem, walk_numbers, read_numbers, written_lem, refused_write_lem, list_numbers, sheet_numbers, check_numbers, mend_numbers, part_numbers, printed_numbers};
 
-use answers::Printed;
+use answers::Full;
 use bounds::Bound;
-use clashes::Verdict;
-use lists::{Reading, refusal_of};
-use mends::Mended;
-use refusals::{Refusal, column, line, number};
-use sheets::Checked;
-use walk::Answer;
+use lists::Unread;
+use mends::Unmended;
+use refusals::{Invalid, Refusal, Unsolved};
+use sheets::Unchecked;
+use walk::Fewest;
 
 #[repr(C)]
 #[derive(Clone, Copy)]
@@ -90,213 +89,199 @@ pub struct PartNumbers {
     pub length: usize,
 }
 
-pub fn of_verdict(v: Verdict) -> VerdictNumbers
-    ensures { result ≡ verdict_numbers v }
-{
-    match v {
-        Verdict::Valid => VerdictNumbers { refusal: 0, row: 0 },
-        Verdict::Many => VerdictNumbers {
-            refusal: number(Refusal::Many),
-            row: 0,
-        },
-        Verdict::Stray(row) => VerdictNumbers {
-            refusal: number(Refusal::Stray),
+impl From<Result<(), Invalid>> for VerdictNumbers {
+    ghost from_gives = { λ a r. r ≡ verdict_numbers a };
+
+    fn from(answer: Result<(), Invalid>) -> VerdictNumbers {
+        match answer {
+            Ok(()) => VerdictNumbers { refusal: 0, row: 0 },
+            Err(why) => VerdictNumbers {
+                refusal: Refusal::from(why).number(),
+                row: why.row(),
+            },
+        }
+    }
+}
+
+impl From<Result<Bound, Invalid>> for BoundNumbers {
+    ghost from_gives = { λ a r. r ≡ bound_numbers a };
+
+    fn from(answer: Result<Bound, Invalid>) -> BoundNumbers {
+        match answer {
+            Ok(bound) => BoundNumbers {
+                refusal: 0,
+                row: 0,
+                bound: bound.size,
+                members: bound.members,
+            },
+            Err(why) => BoundNumbers {
+                refusal: Refusal::from(why).number(),
+                row: why.row(),
+                bound: 0,
+                members: 0,
+            },
+        }
+    }
+}
+
+impl WalkNumbers {
+    // A walk that is refused: every number that it does not name is 0.
+    fn refused(why: Refusal, row: usize, nodes: u64) -> WalkNumbers
+        ensures { result ≡ refused_walk_lem why row nodes }
+    {
+        WalkNumbers {
+            refusal: why.number(),
             row,
-        },
-        Verdict::Itself(row) => VerdictNumbers {
-            refusal: number(Refusal::Itself),
-            row,
-        },
-        Verdict::OneSided(row) => VerdictNumbers {
-            refusal: number(Refusal::OneSided),
-            row,
-        },
-    }
-}
-
-// A bound that is refused: every number that it does not name is 0.
-fn refused_bound(why: Refusal, row: usize) -> BoundNumbers
-    ensures { result ≡ refused_bound_lem why row }
-{
-    BoundNumbers {
-        refusal: number(why),
-        row,
-        bound: 0,
-        members: 0,
-    }
-}
-
-pub fn of_bound(b: Bound) -> BoundNumbers
-    ensures { result ≡ bound_numbers b }
-{
-    match b {
-        Bound::At(bound, members) => BoundNumbers {
-            refusal: 0,
-            row: 0,
-            bound,
-            members,
-        },
-        Bound::Many => refused_bound(Refusal::Many, 0),
-        Bound::Stray(row) => refused_bound(Refusal::Stray, row),
-        Bound::Itself(row) => refused_bound(Refusal::Itself, row),
-        Bound::OneSided(row) => refused_bound(Refusal::OneSided, row),
-    }
-}
-
-// A walk that is refused: every number that it does not name is 0.
-fn refused_walk(why: Refusal, row: usize, nodes: u64) -> WalkNumbers
-    ensures { result ≡ refused_walk_lem why row nodes }
-{
-    WalkNumbers {
-        refusal: number(why),
-        row,
-        k: 0,
-        nodes,
-        leaves: 0,
-        clique: 0,
-    }
-}
-
-pub fn of_walk(a: Answer) -> WalkNumbers
-    ensures { result ≡ walk_numbers a }
-{
-    match a {
-        Answer::Accepted(k, nodes, leaves, clique) => WalkNumbers {
-            refusal: 0,
-            row: 0,
-            k,
+            k: 0,
             nodes,
-            leaves,
-            clique,
-        },
-        Answer::Many => refused_walk(Refusal::Many, 0, 0),
-        Answer::Stray(row) => refused_walk(Refusal::Stray, row, 0),
-        Answer::Itself(row) => refused_walk(Refusal::Itself, row, 0),
-        Answer::OneSided(row) => refused_walk(Refusal::OneSided, row, 0),
-        Answer::Short => refused_walk(Refusal::Short, 0, 0),
-        Answer::Budget(nodes) => refused_walk(Refusal::Budget, 0, nodes),
+            leaves: 0,
+            clique: 0,
+        }
     }
 }
 
-pub fn of_reading(a: Reading) -> ReadNumbers
-    ensures { result ≡ read_numbers a }
-{
-    match a {
-        Reading::Read(entries) => ReadNumbers {
-            refusal: 0,
-            line: 0,
-            column: 0,
-            entries,
-        },
-        Reading::Refused(why, at, spot) => {
-            let r = refusal_of(why);
-            ReadNumbers {
-                refusal: number(r),
-                line: line(r, at),
-                column: column(r, spot),
-                entries: 0,
+impl From<Result<Fewest, Unsolved>> for WalkNumbers {
+    ghost from_gives = { λ a r. r ≡ walk_numbers a };
+
+    fn from(answer: Result<Fewest, Unsolved>) -> WalkNumbers {
+        match answer {
+            Ok(found) => WalkNumbers {
+                refusal: 0,
+                row: 0,
+                k: found.k,
+                nodes: found.nodes,
+                leaves: found.leaves,
+                clique: found.clique,
+            },
+            Err(Unsolved::OfRows(why)) => WalkNumbers::refused(why.into(), why.row(), 0),
+            Err(Unsolved::Short) => WalkNumbers::refused(Refusal::Short, 0, 0),
+            Err(Unsolved::Budget(nodes)) => WalkNumbers::refused(Refusal::Budget, 0, nodes),
+        }
+    }
+}
+
+impl From<Result<usize, Unread>> for ReadNumbers {
+    ghost from_gives = { λ a r. r ≡ read_numbers a };
+
+    fn from(answer: Result<usize, Unread>) -> ReadNumbers {
+        match answer {
+            Ok(entries) => ReadNumbers {
+                refusal: 0,
+                line: 0,
+                column: 0,
+                entries,
+            },
+            Err(unread) => {
+                let why = Refusal::from(unread.why);
+                ReadNumbers {
+                    refusal: why.number(),
+                    line: why.line(unread.line),
+                    column: why.column(unread.column),
+                    entries: 0,
+                }
             }
         }
     }
 }
 
-pub fn of_list(a: lists::Written) -> WriteNumbers
-    ensures { result ≡ list_numbers a }
-{
-    match a {
-        lists::Written::Length(length) => WriteNumbers {
+impl WriteNumbers {
+    // What is written.
+    fn written(length: usize) -> WriteNumbers
+        ensures { result ≡ written_lem length }
+    {
+        WriteNumbers {
             refusal: 0,
             place: 0,
             length,
-        },
-        lists::Written::Many => WriteNumbers {
-            refusal: number(Refusal::Many),
-            place: 0,
-            length: 0,
-        },
-        lists::Written::Stray(place) => WriteNumbers {
-            refusal: number(Refusal::Stray),
+        }
+    }
+
+    // What is refused, at this place: every number that it does not name is 0.
+    fn refused(why: Refusal, place: usize) -> WriteNumbers
+        ensures { result ≡ refused_write_lem why place }
+    {
+        WriteNumbers {
+            refusal: why.number(),
             place,
             length: 0,
-        },
-        lists::Written::Itself(place) => WriteNumbers {
-            refusal: number(Refusal::Itself),
-            place,
-            length: 0,
-        },
-        lists::Written::OneSided(place) => WriteNumbers {
-            refusal: number(Refusal::OneSided),
-            place,
-            length: 0,
-        },
-        lists::Written::Full => WriteNumbers {
-            refusal: number(Refusal::Full),
-            place: 0,
-            length: 0,
-        },
+        }
     }
 }
 
-pub fn of_sheet(a: sheet_texts::Written) -> WriteNumbers
-    ensures { result ≡ sheet_numbers a }
-{
-    let n = sheet_texts::numbers_of(a);
-    WriteNumbers {
-        refusal: n.number,
-        place: n.index,
-        length: n.length,
+impl From<Result<usize, lists::Unwritten>> for WriteNumbers {
+    ghost from_gives = { λ a r. r ≡ list_numbers a };
+
+    fn from(answer: Result<usize, lists::Unwritten>) -> WriteNumbers {
+        match answer {
+            Ok(length) => WriteNumbers::written(length),
+            Err(lists::Unwritten::OfRows(why)) => WriteNumbers::refused(why.into(), why.row()),
+            Err(lists::Unwritten::Full) => WriteNumbers::refused(Refusal::Full, 0),
+        }
     }
 }
 
-pub fn of_check(a: Checked) -> CheckNumbers
-    ensures { result ≡ check_numbers a }
-{
-    let n = sheets::numbers_of(a);
-    CheckNumbers {
-        refusal: n.number,
-        line: n.line,
-        column: n.column,
-        groups: n.groups,
-        text: n.text,
+impl From<Result<usize, sheet_texts::Unwritten>> for WriteNumbers {
+    ghost from_gives = { λ a r. r ≡ sheet_numbers a };
+
+    fn from(answer: Result<usize, sheet_texts::Unwritten>) -> WriteNumbers {
+        let n = sheet_texts::Numbers::from(answer);
+        WriteNumbers {
+            refusal: n.number,
+            place: n.index,
+            length: n.length,
+        }
     }
 }
 
-pub fn of_mending(a: Mended) -> MendNumbers
-    ensures { result ≡ mend_numbers a }
-{
-    let n = mending::numbers_of(a);
-    MendNumbers {
-        refusal: n.number,
-        line: n.line,
-        column: n.column,
-        length: n.length,
-        text: n.text,
+impl From<Result<usize, Full>> for WriteNumbers {
+    ghost from_gives = { λ a r. r ≡ printed_numbers a };
+
+    fn from(answer: Result<usize, Full>) -> WriteNumbers {
+        match answer {
+            Ok(length) => WriteNumbers::written(length),
+            Err(Full) => WriteNumbers::refused(Refusal::Full, 0),
+        }
     }
 }
 
-pub fn of_part(p: sheets::Part) -> PartNumbers
-    ensures { result ≡ part_numbers p }
-{
-    PartNumbers {
-        text: p.text,
-        start: p.start,
-        length: p.length,
+impl From<Result<usize, Unchecked>> for CheckNumbers {
+    ghost from_gives = { λ a r. r ≡ check_numbers a };
+
+    fn from(answer: Result<usize, Unchecked>) -> CheckNumbers {
+        let n = sheets::Numbers::from(answer);
+        CheckNumbers {
+            refusal: n.number,
+            line: n.line,
+            column: n.column,
+            groups: n.groups,
+            text: n.text as usize,
+        }
     }
 }
 
-pub fn of_printed(a: Printed) -> WriteNumbers
-    ensures { result ≡ printed_numbers a }
-{
-    match a {
-        Printed::Length(length) => WriteNumbers {
-            refusal: 0,
-            place: 0,
-            length,
-        },
-        Printed::Full => WriteNumbers {
-            refusal: number(Refusal::Full),
-            place: 0,
-            length: 0,
-        },
+impl From<Result<usize, Unmended>> for MendNumbers {
+    ghost from_gives = { λ a r. r ≡ mend_numbers a };
+
+    fn from(answer: Result<usize, Unmended>) -> MendNumbers {
+        let n = mends::Numbers::from(answer);
+        MendNumbers {
+            refusal: n.number,
+            line: n.line,
+            column: n.column,
+            length: n.length,
+            text: n.text as usize,
+        }
+    }
+}
+
+impl From<sheets::Part> for PartNumbers {
+    ghost from_gives = { λ p r. r ≡ part_numbers p };
+
+    fn from(p: sheets::Part) -> PartNumbers {
+        PartNumbers {
+            text: p.text as usize,
+            start: p.start,
+            length: p.length,
+        }
     }
 }

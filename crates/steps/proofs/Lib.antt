@@ -3,6 +3,5 @@ mod Turns
 mod Splits
 mod Compare
 mod Undoing
-pub mod Copying
 mod Rounds
 mod Starting

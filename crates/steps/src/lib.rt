@@ -3,36 +3,27 @@
 // goes back.
 #![tactic(auto)]
 
-ghost use Rattle.std.specs.Prelude.{◌≡◌, ◌++◌, ◌*◌, ◌≤◌, ◌<◌, length, drop};
+ghost use Rattle.std.specs.Prelude.{◌≡◌, ℕ, ◌++◌, ◌*◌, ◌≤◌, ◌<◌, length, drop};
 ghost use Rattle.wide.specs.Words.{num, rows_of};
 ghost use Rattle.wide.specs.Form.{Form, Fits};
 ghost use Rattle.undo.specs.Forest.{Forest};
 ghost use Rattle.clashes.specs.Divisions.{alone as alone_of};
 ghost use Rattle.bounds.specs.Names.{mycielskian};
-ghost use Rattle.zykov.specs.Walk.{become, compare, bounded, plain};
+ghost use Rattle.zykov.specs.Walk.{Rule, become, compare, bounded, plain};
 ghost use Rattle.steps.specs.Going.{lending, begun, counted as counted_of, Finds, Merging, Unmerging, Parting, Enters, Entered, Splits, Onward, Lends, Lays, Walked};
 
-use graphs::Choice;
 use seam::{choose_among, reaches};
 use undo::{Undo, colours, merge, restore, separate, unmerge};
 use wide::{Set, below, size, without};
 
-// A walk on its way: the number of groups of the best division, the nodes entered, the complete graphs met, and the budget of nodes; out says that it
-// would have had to enter more.
+// A walk on its way: the number of groups of the best division, the nodes entered, the complete graphs met, and the budget of nodes. Where a walk would
+// have to enter more nodes than that there is none.
 #[derive(Clone, Copy)]
 pub struct State {
     pub k: usize,
     pub nodes: u64,
     pub leaves: u64,
     pub budget: u64,
-    pub out: bool,
-}
-
-// A walk's state, and how many pairs it has put on the trail.
-#[derive(Clone, Copy)]
-struct Looped {
-    pub state: State,
-    pub more: usize,
 }
 
 // No node is entered yet.
@@ -43,22 +34,21 @@ fn start(n: usize, budget: u64) -> State
         k: n,
         nodes: 0,
         leaves: 0,
-        budget: budget,
-        out: false,
+        budget,
     }
 }
 
-// One node more, or out of budget.
-fn counted(s: State) -> State
+// One node more, if the budget has one.
+fn counted(s: State) -> Option<State>
     ensures { result ≡ counted_of s }
 {
-    let mut t = s;
-    if t.nodes < t.budget {
-        t.nodes = t.nodes + 1;
-    } else {
-        t.out = true;
+    if s.nodes < s.budget {
+        return Some(State {
+            nodes: s.nodes + 1,
+            ..s
+        });
     }
-    t
+    None
 }
 
 // The groups of a complete graph become the best.
@@ -68,9 +58,7 @@ fn improved(n: usize, live: Set, names: &[u8], best: &mut [u8], s: State) -> Sta
     ensures { Finds become n (num live) names.now best.old s best.new result }
 {
     colours(n, names, best);
-    let mut t = s;
-    t.k = size(live);
-    t
+    State { k: size(live), ..s }
 }
 
 // In rows and names v is merged into u; told is what undoes it.
@@ -94,7 +82,8 @@ fn unmerge_at(words: usize, rows: &mut [u64], names: &mut [u8], u: usize, v: usi
     unmerge(words, rows, u, undo);
 }
 
-// u and v become adjacent, and the pair stands on the trail.
+// u and v become adjacent, and the pair stands on the trail. The casts of these functions are proved to lose nothing: `try_from` would answer an error
+// that cannot come.
 fn separate_at(words: usize, rows: &mut [u64], trail: &mut [u16], top: usize, u: usize, v: usize)
     requires form { Form words rows.old }
     requires u_bound { (u < 64 * words) × (v < 64 * words) × (top < length trail.old) }
@@ -116,30 +105,29 @@ fn enter(
     trail: &mut [u16],
     at: usize,
     s: State,
-) -> State
+) -> Option<State>
     requires { Enters words n live (lending rows.old names.old best.old trail.old) at s }
     ensures { Entered words (bounded n mycielskian) n live (lending rows.old names.old best.old trail.old) at s (lending rows.new names.new best.new trail.new) result }
 {
-    let entered = counted(s);
-    if entered.out {
-        return entered;
-    }
+    let entered = counted(s)?;
     if reaches(words, live, rows, entered.k) {
-        return entered; // a node that is cut off is counted
+        return Some(entered); // a node that is cut off is counted
     }
-    let c = choose_among(words, live, rows);
-    match c {
-        Choice::Complete => improved(n, live, names, best, entered),
-        Choice::Split(u, v) => {
-            let l = split(words, n, live, rows, names, best, trail, at, u, v, entered);
-            restore(words, rows, trail, at, l.more);
-            l.state
+    match choose_among(words, live, rows) {
+        None => Some(improved(n, live, names, best, entered)),
+        Some((u, v)) => {
+            let mut apart: usize = 0;
+            let end = split(
+                words, n, live, rows, names, best, trail, at, &mut apart, u, v, entered,
+            );
+            restore(words, rows, trail, at, apart);
+            end
         }
     }
 }
 
 // The node of these parts, entered already, is split at u and v: the merged graph is entered, then the graph with u and v adjacent, which is split in
-// its turn. Mergings are undone; the separated pairs are on the trail.
+// its turn. Mergings are undone; the separated pairs are on the trail, as many as `more` says.
 #[cycle(enter_split)]
 fn split(
     words: usize,
@@ -150,20 +138,20 @@ fn split(
     best: &mut [u8],
     trail: &mut [u16],
     at: usize,
+    more: &mut usize,
     u: usize,
     v: usize,
     s: State,
-) -> Looped
-    requires { Splits words n live (lending rows.old names.old best.old trail.old) at u v s }
-    ensures { Onward words (bounded n mycielskian) n live (lending rows.old names.old best.old trail.old) at u v s (lending rows.new names.new best.new trail.new) result.state result.more }
+) -> Option<State>
+    requires { Splits words n live (lending rows.old names.old best.old trail.old) at more.old u v s }
+    ensures { Onward words (bounded n mycielskian) n live (lending rows.old names.old best.old trail.old) at u v s (lending rows.new names.new best.new trail.new) result more.new }
 {
     let mut a = u;
     let mut b = v;
     let mut t = s;
-    let mut more: usize = 0;
     loop {
         let d = merge_at(words, live, rows, names, a, b);
-        t = enter(
+        let below = enter(
             words,
             n,
             without(live, b),
@@ -171,40 +159,20 @@ fn split(
             names,
             best,
             trail,
-            at + more,
+            at + *more,
             t,
         );
         unmerge_at(words, rows, names, a, b, d);
-        if t.out {
-            return Looped {
-                state: t,
-                more: more,
-            };
-        }
-        separate_at(words, rows, trail, at + more, a, b);
-        more += 1;
-        t = counted(t);
-        if t.out {
-            return Looped {
-                state: t,
-                more: more,
-            };
-        }
+        t = below?;
+        separate_at(words, rows, trail, at + *more, a, b);
+        *more += 1;
+        t = counted(t)?;
         if reaches(words, live, rows, t.k) {
-            return Looped {
-                state: t,
-                more: more,
-            };
+            return Some(t);
         }
-        let c = choose_among(words, live, rows);
-        match c {
-            Choice::Complete => {
-                return Looped {
-                    state: improved(n, live, names, best, t),
-                    more: more,
-                };
-            }
-            Choice::Split(x, y) => {
+        match choose_among(words, live, rows) {
+            None => return Some(improved(n, live, names, best, t)),
+            Some((x, y)) => {
                 a = x;
                 b = y;
             }
@@ -219,8 +187,10 @@ fn compared(n: usize, live: Set, names: &[u8], best: &mut [u8], s: State) -> Sta
     requires leaves_lt_nodes { s.leaves < s.nodes }
     ensures { Finds compare n (num live) names.now best.old s best.new result }
 {
-    let mut t = s;
-    t.leaves = t.leaves + 1;
+    let t = State {
+        leaves: s.leaves + 1,
+        ..s
+    };
     if size(live) < t.k {
         return improved(n, live, names, best, t);
     }
@@ -228,7 +198,8 @@ fn compared(n: usize, live: Set, names: &[u8], best: &mut [u8], s: State) -> Sta
 }
 
 // The plain walk below the node of these parts: it goes by itself to the merged graph, which has one vertex fewer, and loops on separations. Rows and
-// names are as they were when it is done, and so is the trail below at.
+// names are as they were when it is done, and so is the trail below at. It is no instance of one walk with `enter` and `split`, since document 01 gives
+// each a form (docs/ARCHITECTURE.md, "The named forms"): those two call on each other, this one on itself.
 fn explore(
     words: usize,
     n: usize,
@@ -239,28 +210,26 @@ fn explore(
     trail: &mut [u16],
     at: usize,
     s: State,
-) -> State
+) -> Option<State>
     requires { Enters words n live (lending rows.old names.old best.old trail.old) at s }
     ensures { Entered words (plain n) n live (lending rows.old names.old best.old trail.old) at s (lending rows.new names.new best.new trail.new) result }
 {
     let mut t = s;
     let mut more: usize = 0;
     loop {
-        t = counted(t);
-        if t.out {
+        let Some(entered) = counted(t) else {
             restore(words, rows, trail, at, more);
-            return t;
-        }
-        let c = choose_among(words, live, rows);
-        match c {
-            Choice::Complete => {
-                t = compared(n, live, names, best, t);
+            return None;
+        };
+        match choose_among(words, live, rows) {
+            None => {
+                let met = compared(n, live, names, best, entered);
                 restore(words, rows, trail, at, more);
-                return t;
+                return Some(met);
             }
-            Choice::Split(u, v) => {
+            Some((u, v)) => {
                 let d = merge_at(words, live, rows, names, u, v);
-                t = explore(
+                let below = explore(
                     words,
                     n,
                     without(live, v),
@@ -269,29 +238,18 @@ fn explore(
                     best,
                     trail,
                     at + more,
-                    t,
+                    entered,
                 );
                 unmerge_at(words, rows, names, u, v, d);
-                if t.out {
+                let Some(back) = below else {
                     restore(words, rows, trail, at, more);
-                    return t;
-                }
+                    return None;
+                };
+                t = back;
                 separate_at(words, rows, trail, at + more, u, v);
                 more += 1;
             }
         }
-    }
-}
-
-// The list's rows stand at the front of the lent ones.
-fn copied(rows: &[u64], held: &mut [u64])
-    requires { length rows.now ≤ length held.old }
-    ensures { held.new ≡ rows.now ++ drop (length rows.now) held.old }
-{
-    let mut i: usize = 0;
-    while i < rows.len() {
-        held[i] = rows[i];
-        i += 1;
     }
 }
 
@@ -300,10 +258,8 @@ fn alone(n: usize, out: &mut [u8])
     requires { (n ≤ length out.old) × (n ≤ 256) }
     ensures { out.new ≡ alone_of n ++ drop n out.old }
 {
-    let mut i: usize = 0;
-    while i < n {
-        out[i] = i as u8;
-        i += 1;
+    for (i, entry) in out[..n].iter_mut().enumerate() {
+        *entry = i as u8;
     }
 }
 
@@ -313,41 +269,75 @@ fn lay(n: usize, rows: &[u64], held: &mut [u64], names: &mut [u8], best: &mut [u
     requires n_in_bounds { (n ≤ length names.old) × (n ≤ length best.old) × (n ≤ 256) }
     ensures { Lays n rows.now held.old names.old best.old held.new names.new best.new }
 {
-    copied(rows, held);
+    held[..rows.len()].copy_from_slice(rows);
     alone(n, names);
     alone(n, best);
 }
 
-// The bounded walk over a list of n entries, in the room that is lent.
-pub fn bounded_walk(
-    words: usize,
-    n: usize,
-    rows: &[u64],
-    held: &mut [u64],
-    names: &mut [u8],
-    best: &mut [u8],
-    trail: &mut [u16],
-    budget: u64,
-) -> State
-    requires { Lends words n rows.now (lending held.old names.old best.old trail.old) }
-    ensures { Walked (bounded n mycielskian) n (rows_of words n rows.now) budget best.new result }
-{
-    lay(n, rows, held, names, best);
-    enter(
-        words,
-        n,
-        below(n),
-        held,
-        names,
-        best,
-        trail,
-        0,
-        start(n, budget),
-    )
+// One of the two walks.
+pub trait Walk {
+    ghost rule: { ℕ → Rule };
+
+    // The node of these parts is entered, and walked by the rule.
+    fn enter(
+        words: usize,
+        n: usize,
+        live: Set,
+        rows: &mut [u64],
+        names: &mut [u8],
+        best: &mut [u8],
+        trail: &mut [u16],
+        at: usize,
+        s: State,
+    ) -> Option<State>
+        requires { Enters words n live (lending rows.old names.old best.old trail.old) at s }
+        ensures { Entered words (rule n) n live (lending rows.old names.old best.old trail.old) at s (lending rows.new names.new best.new trail.new) result };
 }
 
-// The plain walk, likewise.
-pub fn plain_walk(
+// The walk by the Mycielskian bound.
+pub struct Bounded;
+
+impl Walk for Bounded {
+    ghost rule = { λ n. bounded n mycielskian };
+
+    fn enter(
+        words: usize,
+        n: usize,
+        live: Set,
+        rows: &mut [u64],
+        names: &mut [u8],
+        best: &mut [u8],
+        trail: &mut [u16],
+        at: usize,
+        s: State,
+    ) -> Option<State> {
+        enter(words, n, live, rows, names, best, trail, at, s)
+    }
+}
+
+// The plain walk, which has no bounds.
+pub struct Plain;
+
+impl Walk for Plain {
+    ghost rule = { plain };
+
+    fn enter(
+        words: usize,
+        n: usize,
+        live: Set,
+        rows: &mut [u64],
+        names: &mut [u8],
+        best: &mut [u8],
+        trail: &mut [u16],
+        at: usize,
+        s: State,
+    ) -> Option<State> {
+        explore(words, n, live, rows, names, best, trail, at, s)
+    }
+}
+
+// The walk over a list of n entries, in the room that is lent.
+pub fn walk_list<W: Walk>(
     words: usize,
     n: usize,
     rows: &[u64],
@@ -356,12 +346,12 @@ pub fn plain_walk(
     best: &mut [u8],
     trail: &mut [u16],
     budget: u64,
-) -> State
+) -> Option<State>
     requires { Lends words n rows.now (lending held.old names.old best.old trail.old) }
-    ensures { Walked (plain n) n (rows_of words n rows.now) budget best.new result }
+    ensures { Walked (W.rule n) n (rows_of words n rows.now) budget best.new result }
 {
     lay(n, rows, held, names, best);
-    explore(
+    W::enter(
         words,
         n,
         below(n),

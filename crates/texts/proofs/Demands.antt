@@ -17,18 +17,18 @@ use mathlib.Core.List.{List, ◌++◌}
 use Prim.Native.Nat.{ℕ, ◌≤◌, ◌<◌}
 use native.Mathlib.Omega.{arith}
 use lib.ListN.{length, take, drop}
+use Rattle.std.specs.Prelude.{Result, Ok, Err}
 use Rattle.refusals.specs.Table.{number_of}
 use Rattle.refusals.specs.declared.Refusal.TheVariants.{Room, Repeat}
 use Rattle.clashes.specs.Matrix.{matrix}
 use Rattle.lines.specs.Text.{lines_of}
 use Rattle.lists.specs.Promise.{refusal_of_lem as list_refusal, read_numbers, ReadPromise}
-use Rattle.lists.specs.declared.Fault.{Fault}
-use Rattle.lists.specs.declared.Reading.{Reading}
-use Rattle.lists.specs.declared.Reading.TheVariants.{Read, Refused as Unreadable}
-use Rattle.sheets.specs.Promise.{refusal_of_lem as sheet_refusal, the_list, the_sheet, numbers_of_lem, CheckPromise}
-use Rattle.sheets.specs.declared.SheetFault.{SheetFault}
-use Rattle.sheets.specs.declared.Checked.{Checked}
-use Rattle.sheets.specs.declared.Checked.TheVariants.{Accepted, Unread, Short, Refused}
+use Rattle.lists.specs.declared.Unread.{Unread}
+use Rattle.sheets.specs.Promise.{refusal_of_lem as sheet_refusal, numbers_of_lem, CheckPromise}
+use Rattle.sheets.specs.declared.Text.TheVariants.{TheList, TheSheet}
+use Rattle.sheets.specs.declared.Refused.{Refused}
+use Rattle.sheets.specs.declared.Unchecked.{Unchecked}
+use Rattle.sheets.specs.declared.Unchecked.TheVariants.{OfList, Short, OfSheet}
 use Rattle.texts.specs.Listed.{RepeatAt, ListOf}
 use Rattle.texts.specs.ListFaults.{ListRefused}
 use Rattle.texts.specs.Sheets.{SheetOf}
@@ -42,23 +42,23 @@ use Rattle.texts.proofs.CheckCalls as checking
 
 module _ (plain : Bool) (s old new : List ℕ) where
   -- Accepted with n: the text is a list of n entries, whose clashes are those of the first n lent rows; the others are as they were.
-  pub list_accepted : (n : ℕ) → ReadPromise plain s old (Read n) new → ListOf plain 64 65536 s n (take n new) × (n ≤ length old) × (drop n new ≡ drop n old)
+  pub list_accepted : (n : ℕ) → ReadPromise plain s old (Ok n) new → ListOf plain 64 65536 s n (take n new) × (n ≤ length old) × (drop n new ≡ drop n old)
   list_accepted = reading.read_accepted plain 64 65536 s old new
 
   -- Every list for which there is room is accepted, and its rows are stored.
-  pub list_taken : (a : Reading) → ReadPromise plain s old a new → (n : ℕ) (rows : List ℕ) → ListOf plain 64 65536 s n rows → n ≤ length old
-      → (a ≡ Read n) × (new ≡ rows ++ drop n old)
+  pub list_taken : (a : Result ℕ Unread) → ReadPromise plain s old a new → (n : ℕ) (rows : List ℕ) → ListOf plain 64 65536 s n rows → n ≤ length old
+      → (a ≡ Ok n) × (new ≡ rows ++ drop n old)
   list_taken = reading.read_taken plain 64 65536 s old new
 
   -- Refused: line k has this fault, no line before it has any, and none that comes before it in the order is in line k; or so at the end; or 18. The column
   -- of 10, 21, 22 and 23 is that of the first byte at which line k can no longer begin any permitted line, or one past its end; any other has 0. Nothing
   -- lent is written.
-  pub list_refused : (f : Fault) (k c : ℕ) → ReadPromise plain s old (Unreadable f k c) new
-      → ListRefused plain 64 65536 s (length old) (number_of (list_refusal f)) k c × (new ≡ old)
+  pub list_refused : (u : Unread) → ReadPromise plain s old (Err u) new
+      → ListRefused plain 64 65536 s (length old) (number_of (list_refusal u.why)) u.line u.column × (new ≡ old)
   list_refused = reading.read_refused plain 64 65536 s old new
 
   -- Every text that the words refuse is refused with that number, that line and that column.
-  pub list_returned : (a : Reading) → ReadPromise plain s old a new → (f k c : ℕ) → ListRefused plain 64 65536 s (length old) f k c
+  pub list_returned : (a : Result ℕ Unread) → ReadPromise plain s old a new → (f k c : ℕ) → ListRefused plain 64 65536 s (length old) f k c
       → read_numbers a ≡ record { number = f; place = k; column = c; size = 0 }
   list_returned = reading.read_returned plain 64 65536 s old new
 
@@ -92,38 +92,38 @@ module _ (most longest : ℕ) (s : List ℕ) where
 module _ (plain : Bool) (list s old new : List ℕ) where
   -- Accepted with k: the first n lent bytes are a division, clash-free for the list that was read, into k groups, and the sheet is its text, byte for
   -- byte; the other bytes are as they were.
-  pub check_accepted : (k : ℕ) → CheckPromise plain list s old (Accepted k) new
+  pub check_accepted : (k : ℕ) → CheckPromise plain list s old (Ok k) new
       → (n : ℕ) × (rows : List ℕ) × ListOf plain 64 65536 list n rows × (n ≤ length old) × SheetOf 65536 n (matrix rows) s k (take n new) × (drop n new ≡ drop n old)
   check_accepted = checking.check_accepted plain 64 65536 list s old new
 
   -- Not accepted: the clash text is refused, the colour bytes are fewer than n, or the sheet is refused, in this order. Nothing lent is written.
-  pub check_unread : (f : Fault) (k c : ℕ) → CheckPromise plain list s old (Unread f k c) new
-      → ListRefused plain 64 65536 list 64 (number_of (list_refusal f)) k c × (new ≡ old)
+  pub check_unread : (u : Unread) → CheckPromise plain list s old (Err (OfList u)) new
+      → ListRefused plain 64 65536 list 64 (number_of (list_refusal u.why)) u.line u.column × (new ≡ old)
   check_unread = checking.check_unread plain 64 65536 list s old new
 
-  pub check_short : CheckPromise plain list s old Short new → (n : ℕ) × (rows : List ℕ) × ListOf plain 64 65536 list n rows × (length old < n) × (new ≡ old)
+  pub check_short : CheckPromise plain list s old (Err Short) new → (n : ℕ) × (rows : List ℕ) × ListOf plain 64 65536 list n rows × (length old < n) × (new ≡ old)
   check_short = checking.check_short plain 64 65536 list s old new
 
-  pub check_refused : (f : SheetFault) (k : ℕ) → CheckPromise plain list s old (Refused f k) new
-      → (n : ℕ) × (rows : List ℕ) × ListOf plain 64 65536 list n rows × (n ≤ length old) × SheetRefused 65536 n (matrix rows) s (number_of (sheet_refusal f)) k × (new ≡ old)
+  pub check_refused : (r : Refused) → CheckPromise plain list s old (Err (OfSheet r)) new
+      → (n : ℕ) × (rows : List ℕ) × ListOf plain 64 65536 list n rows × (n ≤ length old) × SheetRefused 65536 n (matrix rows) s (number_of (sheet_refusal r.why)) r.line × (new ≡ old)
   check_refused = checking.check_refused plain 64 65536 list s old new
 
-  module _ (a : Checked) (p : CheckPromise plain list s old a new) where
+  module _ (a : Result ℕ Unchecked) (p : CheckPromise plain list s old a new) where
     -- Each of these wherever the words say so, with that number, that line, that column, and which text is at fault.
     pub check_unread_so : (f k c : ℕ) → ListRefused plain 64 65536 list 64 f k c
-        → numbers_of_lem a ≡ record { number = f; line = k; column = c; groups = 0; text = the_list }
+        → numbers_of_lem a ≡ record { number = f; line = k; column = c; groups = 0; text = TheList }
     check_unread_so = checking.check_unread_so plain 64 65536 list s old new a p
 
     module _ (n : ℕ) (rows : List ℕ) (l : ListOf plain 64 65536 list n rows) where
-      pub check_short_so : length old < n → a ≡ Short
+      pub check_short_so : length old < n → a ≡ Err Short
       check_short_so = checking.check_short_so plain 64 65536 list s old new a p n rows l
 
       pub check_refused_so : n ≤ length old → (f k : ℕ) → SheetRefused 65536 n (matrix rows) s f k
-          → numbers_of_lem a ≡ record { number = f; line = k; column = 0; groups = 0; text = the_sheet }
+          → numbers_of_lem a ≡ record { number = f; line = k; column = 0; groups = 0; text = TheSheet }
       check_refused_so = checking.check_refused_so plain 64 65536 list s old new a p n rows l
 
       -- Every sheet that is the text of a clash-free division is accepted, with it.
-      pub check_taken : n ≤ length old → (k : ℕ) (c : List ℕ) → SheetOf 65536 n (matrix rows) s k c → (a ≡ Accepted k) × (new ≡ c ++ drop n old)
+      pub check_taken : n ≤ length old → (k : ℕ) (c : List ℕ) → SheetOf 65536 n (matrix rows) s k c → (a ≡ Ok k) × (new ≡ c ++ drop n old)
       check_taken = checking.check_taken plain 64 65536 list s old new a p n rows l (omega (arith, l.few))
 
 -- The words leave one division, or one refusal and one line, and not both.

@@ -8,6 +8,7 @@ use mathlib.Core.Path.{◌≡◌, refl, ap, subst, ◌∙◌}
 use mathlib.Core.Logic.{◌⊎◌, inl, inr}
 use mathlib.Core.List.{List}
 use native.Mathlib.Omega.{arith}
+use Rattle.std.specs.Prelude.{Option}
 use Rattle.lines.specs.Text.{Text, done, unended, ended, line_count}
 use Rattle.lists.specs.Shape.{shape_of}
 use Rattle.lists.specs.declared.Shape.{Shape}
@@ -17,32 +18,32 @@ use Rattle.texts.specs.ListColumns.{line_at}
 
 -- ---- a line more at the front
 
-pub at_first : (l : List ℕ) (t : Text) (x : Shape) → shape_of l ≡ x → At (ended l t) 1 x
+pub at_first : (l : List ℕ) (t : Text) (x : Option Shape) → shape_of l ≡ x → At (ended l t) 1 x
 at_first l t x e = ((omega arith, omega arith), e)
 
-pub at_later : (l : List ℕ) (t : Text) (k : ℕ) (x : Shape) → At t k x → At (ended l t) (suc k) x
+pub at_later : (l : List ℕ) (t : Text) (k : ℕ) (x : Option Shape) → At t k x → At (ended l t) (suc k) x
 at_later l t zero x h = absurd (omega (arith, h.0.0))
 at_later l t (suc k) x h = ((omega arith, omega (arith, h.0.1)), h.1)
 
-pub at_cases : (l : List ℕ) (t : Text) (k : ℕ) (x : Shape) → At (ended l t) k x → ((k ≡ 1) × (shape_of l ≡ x)) ⊎ ((j : ℕ) × (k ≡ suc j) × At t j x)
+pub at_cases : (l : List ℕ) (t : Text) (k : ℕ) (x : Option Shape) → At (ended l t) k x → ((k ≡ 1) × (shape_of l ≡ x)) ⊎ ((j : ℕ) × (k ≡ suc j) × At t j x)
 at_cases l t zero x h = absurd (omega (arith, h.0.0))
 at_cases l t (suc zero) x h = inl (refl, h.1)
 at_cases l t (suc (suc k)) x h = inr (suc k, refl, ((omega arith, omega (arith, h.0.1)), h.1))
 
-pub at_none : (k : ℕ) (x : Shape) → At done k x → ⊥
+pub at_none : (k : ℕ) (x : Option Shape) → At done k x → ⊥
 at_none k x h = omega (arith, h.0.0, h.0.1)
 
 -- ---- the rest of a text
 
 pub record Rest (t0 : Text) (i : ℕ) (t : Text) : Type 0 where
-  pub forth : (k : ℕ) (x : Shape) → At t k x → At t0 (i + k) x
-  pub back : (k : ℕ) (x : Shape) → 1 ≤ k → At t0 (i + k) x → At t k x
+  pub forth : (k : ℕ) (x : Option Shape) → At t k x → At t0 (i + k) x
+  pub back : (k : ℕ) (x : Option Shape) → 1 ≤ k → At t0 (i + k) x → At t k x
   pub open_forth : (k : ℕ) → 1 ≤ k → Unended t k → Unended t0 (i + k)
   pub open_back : (k : ℕ) → 1 ≤ k → Unended t0 (i + k) → Unended t k
   pub many : line_count t0 ≡ i + line_count t
   pub lines : (k : ℕ) → 1 ≤ k → line_at t0 (i + k) ≡ line_at t k
 
-at_unstep : (l : List ℕ) (t : Text) (k : ℕ) (x : Shape) → 1 ≤ k → At (ended l t) (suc k) x → At t k x
+at_unstep : (l : List ℕ) (t : Text) (k : ℕ) (x : Option Shape) → 1 ≤ k → At (ended l t) (suc k) x → At t k x
 at_unstep l t zero x p h = absurd (omega arith)
 at_unstep l t (suc k) x p h = ((omega arith, omega (arith, h.0.1)), h.1)
 
@@ -72,7 +73,7 @@ rest_next t0 i l t r = record {
 
 -- ---- ended lines
 
-pub no_line : (t : Text) (x : Shape) → ¬ At t 0 x
+pub no_line : (t : Text) (x : Option Shape) → ¬ At t 0 x
 no_line t x a = omega (arith, a.0.0)
 
 pub unended_none : (t : Text) → ¬ Unended t 0

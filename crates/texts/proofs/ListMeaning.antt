@@ -4,11 +4,11 @@ use mathlib.Core.Path.{◌≡◌, refl, sym, ap, subst, ◌∙◌}
 use mathlib.Core.Logic.{◌⊎◌, inl, inr, ⊎_elim, ◌↔◌}
 use mathlib.Core.List.{List, [], ◌∷◌}
 use mathlib.Core.Bool.{Bool, true, false}
-use mathlib.Core.Bool.{Bool, true, false}
 use native.Mathlib.Omega.{arith}
 use borrow.Author.Tests.{eqb-true}
 use lib.Dec.{T, eqb}
 use lib.ListN.{length, get_or, take}
+use Rattle.std.specs.Prelude.{Option, Some, Result, Ok, Err}
 use Rattle.sets.specs.Lists.{some?}
 use Rattle.refusals.specs.Table.{If}
 use Rattle.sets.proofs.SetLaws.{same_members}
@@ -18,8 +18,9 @@ use Rattle.lines.specs.Text.{Text, lines_of}
 use Rattle.lists.specs.declared.Shape.TheVariants.{P}
 use Rattle.lists.specs.declared.Fault.{Fault}
 use Rattle.lists.specs.declared.Fault.TheVariants.{Line, Headless, Second, Size, Room, Vertex, Loop, Count, Long, Repeat, Digit, Space, Unended}
-use Rattle.lists.specs.declared.Reading.{Reading}
-use Rattle.lists.specs.declared.Reading.TheVariants.{Read, Refused}
+use Rattle.lists.specs.declared.Shape.{Shape}
+use Rattle.lists.specs.declared.Unread.{Unread}
+use Rattle.lists.specs.declared.Gathered.{Gathered}
 use Rattle.lists.specs.Expect.{Astray, permitted}
 use Rattle.lists.specs.Promise.{number_of}
 use Rattle.lists.proofs.Columns.{astray_one}
@@ -40,11 +41,11 @@ use Rattle.texts.proofs.ListRefused.{list_refused}
 lacks_one : (t : Text) (f g : ℕ) → Lacks t f → Lacks t g → f ≡ g
 lacks_one t f g a b = go (cases f a) (cases g b)
   where
-    cases : (f : ℕ) → Lacks t f → ((f ≡ 11) × ((k n m : ℕ) → ¬ At t k (P n m))) ⊎ ((f ≡ 16) × ((k n m : ℕ) × At t k (P n m)))
+    cases : (f : ℕ) → Lacks t f → ((f ≡ 11) × ((k n m : ℕ) → ¬ At t k (Some (P n m)))) ⊎ ((f ≡ 16) × ((k n m : ℕ) × At t k (Some (P n m))))
     cases f h = if_cases (eqb f 11) h (λ e x. inl (eqb-true f 11 e, x)) (λ _ h. if_cases (eqb f 16) h (λ e x. inr (eqb-true f 16 e, (x.0, x.1, x.2, x.3))) (λ _ h. absurd h))
 
-    go : ((f ≡ 11) × ((k n m : ℕ) → ¬ At t k (P n m))) ⊎ ((f ≡ 16) × ((k n m : ℕ) × At t k (P n m)))
-        → ((g ≡ 11) × ((k n m : ℕ) → ¬ At t k (P n m))) ⊎ ((g ≡ 16) × ((k n m : ℕ) × At t k (P n m))) → f ≡ g
+    go : ((f ≡ 11) × ((k n m : ℕ) → ¬ At t k (Some (P n m)))) ⊎ ((f ≡ 16) × ((k n m : ℕ) × At t k (Some (P n m))))
+        → ((g ≡ 11) × ((k n m : ℕ) → ¬ At t k (Some (P n m)))) ⊎ ((g ≡ 16) × ((k n m : ℕ) × At t k (Some (P n m)))) → f ≡ g
     go (inl x) (inl y) = x.0 ∙ sym y.0
     go (inl x) (inr y) = let w = y.1 in absurd (x.1 w.0 w.1 w.2 w.3)
     go (inr x) (inl y) = let w = x.1 in absurd (y.1 w.0 w.1 w.2 w.3)
@@ -73,10 +74,10 @@ module _ (plain : Bool) (most longest : ℕ) (s : List ℕ) where
   -- ---- a list has no fault
 
   module _ (n : ℕ) (rows : List ℕ) (x : ListOf plain most longest s n rows) where
-    p_says : (k a b : ℕ) → At (lines_of s) k (P a b) → (k ≡ x.head) × (a ≡ n) × (b ≡ x.stated)
+    p_says : (k a b : ℕ) → At (lines_of s) k (Some (P a b)) → (k ≡ x.head) × (a ≡ n) × (b ≡ x.stated)
     p_says k a b h =
         let e = x.only k a b h in
-        let q : P a b ≡ P n x.stated = sym (subst (λ (j : ℕ). At (lines_of s) j (P a b)) e h).1 ∙ x.header.1 in
+        let q : ◌≡◌ {A = Option Shape} (Some (P a b)) (Some (P n x.stated)) = sym (subst (λ (j : ℕ). At (lines_of s) j (Some (P a b))) e h).1 ∙ x.header.1 in
         (e, cc, cc)
 
     fault_none : (room : ℕ) → n ≤ room → (k : ℕ) (f : Fault) → ¬ Has plain most (lines_of s) room k (number_of f)
@@ -143,27 +144,27 @@ module _ (plain : Bool) (most longest : ℕ) (s : List ℕ) where
 
   -- each text that is a list of n entries is read as one, where there is room for it
   pub list_taken : (room n : ℕ) (rows : List ℕ) → ListOf plain most longest s n rows → n ≤ room
-      → ((read_up_to plain most longest s room).answer ≡ Read n) × (take n (read_up_to plain most longest s room).rows ≡ rows)
-  list_taken room n rows x h = go (read_up_to plain most longest s room).answer refl
+      → (f : Gathered) × (read_up_to plain most longest s room ≡ Ok f) × (f.n ≡ n) × (take n f.rows ≡ rows)
+  list_taken room n rows x h = go (read_up_to plain most longest s room) refl
     where
-      go : (a : Reading) → (read_up_to plain most longest s room).answer ≡ a
-          → ((read_up_to plain most longest s room).answer ≡ Read n) × (take n (read_up_to plain most longest s room).rows ≡ rows)
-      go (Read m) e =
-          let o = list_one m n _ rows (list_accepted plain most longest s room m e).0 x in
-          (e ∙ ap Read o.0, ap (λ (i : ℕ). take i (read_up_to plain most longest s room).rows) (sym o.0) ∙ o.1)
-      go (Refused f k c) e = absurd (list_unrefused n rows x room h (number_of f) k c (list_refused plain most longest s room f k c e))
+      go : (a : Result Gathered Unread) → read_up_to plain most longest s room ≡ a
+          → (f : Gathered) × (read_up_to plain most longest s room ≡ Ok f) × (f.n ≡ n) × (take n f.rows ≡ rows)
+      go (Ok f) e =
+          let o = list_one f.n n _ rows (list_accepted plain most longest s room f e).0 x in
+          (f, e, o.0, ap (λ (i : ℕ). take i f.rows) (sym o.0) ∙ o.1)
+      go (Err u) e = absurd (list_unrefused n rows x room h (number_of u.why) u.line u.column (list_refused plain most longest s room u e))
 
   -- each text that is refused in words is refused so
   pub list_returned : (room f k c : ℕ) → ListRefused plain most longest s room f k c
-      → (g : Fault) × ((read_up_to plain most longest s room).answer ≡ Refused g k c) × (number_of g ≡ f)
-  list_returned room f k c h = go (read_up_to plain most longest s room).answer refl
+      → (u : Unread) × (read_up_to plain most longest s room ≡ Err u) × (number_of u.why ≡ f) × (u.line ≡ k) × (u.column ≡ c)
+  list_returned room f k c h = go (read_up_to plain most longest s room) refl
     where
-      go : (a : Reading) → (read_up_to plain most longest s room).answer ≡ a → (g : Fault) × ((read_up_to plain most longest s room).answer ≡ Refused g k c) ×
-          (number_of g ≡ f)
-      go (Read m) e = let r = list_accepted plain most longest s room m e in absurd (list_unrefused m _ r.0 room r.1 f k c h)
-      go (Refused g j d) e =
-          let o = list_refusal_one room (number_of g) f j k d c (list_refused plain most longest s room g j d e) h in
-          (g, e ∙ ap (λ (x : ℕ). Refused g x d) o.1 ∙ ap (Refused g k) o.2, o.0)
+      go : (a : Result Gathered Unread) → read_up_to plain most longest s room ≡ a
+          → (u : Unread) × (read_up_to plain most longest s room ≡ Err u) × (number_of u.why ≡ f) × (u.line ≡ k) × (u.column ≡ c)
+      go (Ok g) e = let r = list_accepted plain most longest s room g e in absurd (list_unrefused g.n _ r.0 room r.1 f k c h)
+      go (Err u) e =
+          let o = list_refusal_one room (number_of u.why) f u.line k u.column c (list_refused plain most longest s room u e) h in
+          (u, e, o.0, o.1, o.2)
 
 -- ---- the two readings
 

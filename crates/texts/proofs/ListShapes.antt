@@ -12,9 +12,9 @@ use mathlib.Core.Bool.{Bool, true, false}
 use native.Mathlib.Omega.{arith}
 use lib.Dec.{T}
 use lib.ListN.{take, drop}
+use Rattle.std.specs.Prelude.{None}
 use Rattle.lines.specs.Text.{Text, Within}
 use Rattle.lists.specs.Shape.{shape_of}
-use Rattle.lists.specs.declared.Shape.TheVariants.{Bad}
 use Rattle.lists.specs.declared.Fault.{Fault}
 use Rattle.lists.specs.declared.Fault.TheVariants.{Line, Headless, Second, Size, Room, Vertex, Loop, Count, Long, Repeat, Digit, Space, Unended}
 use Rattle.lists.specs.declared.Spot.{Spot}
@@ -86,7 +86,7 @@ gap_fault (anything ∷ g) d h = refl
 module _ (t : Text) (k : ℕ) where
   -- of a bad line, the fault there
   pub record Spoilt (f : Fault) : Type 0 where
-    pub bad : At t k Bad
+    pub bad : At t k None
     pub column : ℕ
     pub astray : Astray permitted (line_at t k) column
     pub expected : Pieces
@@ -107,7 +107,7 @@ module _ (t : Text) (k : ℕ) where
 
   -- by its number
   abbrev pub Shaped : Fault → Type 0
-  Shaped f = Spoilt f ⊎ ((f ≡ Unended) × NoFeed t k × ¬ At t k Bad)
+  Shaped f = Spoilt f ⊎ ((f ≡ Unended) × NoFeed t k × ¬ At t k None)
 
   module _ (plain : Bool) (most room : ℕ) where
     pub has_shaped : (f : Fault) → T (of_shape f) → Has plain most t room k (number_of f) → Shaped f
@@ -126,7 +126,7 @@ module _ (t : Text) (k : ℕ) where
     has_shaped Repeat a x = absurd a
 
     -- of a line that is neither bad nor unended there is none
-    pub shape_clean : ¬ At t k Bad → ¬ NoFeed t k → (f : Fault) → T (of_shape f) → ¬ Has plain most t room k (number_of f)
+    pub shape_clean : ¬ At t k None → ¬ NoFeed t k → (f : Fault) → T (of_shape f) → ¬ Has plain most t room k (number_of f)
     shape_clean b u f a x = ⊎_elim (λ s. b s.bad) (λ s. u s.1) (has_shaped f a x)
 
     pub shape_one : (f g : Fault) → T (of_shape f) → T (of_shape g) → Has plain most t room k (number_of f) → Has plain most t room k (number_of g) → f ≡ g
@@ -140,7 +140,7 @@ module _ (t : Text) (k : ℕ) where
 
     -- ---- the one that is found
 
-    wents : (f : Fault) (c : ℕ) (g : Pieces) → At t k Bad → Astray permitted (line_at t k) c → Due permitted (take (c - 1) (line_at t k)) g
+    wents : (f : Fault) (c : ℕ) (g : Pieces) → At t k None → Astray permitted (line_at t k) c → Due permitted (take (c - 1) (line_at t k)) g
         → T (due_test f g (digit_at (drop (c - 1) (line_at t k)))) → Has plain most t room k (number_of f)
     wents Line c g b a d q = record { bad = b; column = c; astray = a; expected = g; due = d; kind = q }
     wents Digit c g b a d q = record { bad = b; column = c; astray = a; expected = g; due = d; kind = q }
@@ -157,7 +157,7 @@ module _ (t : Text) (k : ℕ) where
     wents Repeat c g b a d q = absurd q
 
     module _ (l : List ℕ) (e : line_at t k ≡ l) (w : At t k (shape_of l)) where
-      pub bad_has : shape_of l ≡ Bad → Has plain most t room k (number_of (spot_of l).fault)
+      pub bad_has : shape_of l ≡ None → Has plain most t room k (number_of (spot_of l).fault)
       bad_has b =
           let r = spot_bad l ((permitted_bad l).1 b) in
           subst (λ (f : Fault). Has plain most t room k (number_of f)) (sym r.2)

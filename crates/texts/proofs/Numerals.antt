@@ -7,11 +7,10 @@ use native.Mathlib.Omega.{arith}
 use borrow.Author.Tests.{le-leb, lt-leb, leb-true, eqb-true, eqb-false}
 use lib.Dec.{T, leb, eqb}
 use lib.ListN.{length, get_or, drop, length-append}
+use Rattle.std.specs.Prelude.{None, Some}
 use Rattle.lines.specs.Number.{digits, value, proper}
 use Rattle.lines.specs.Words.{starts, whole, alone_of}
 use Rattle.lines.specs.Numeral.{decimal, numeral}
-use Rattle.lines.specs.declared.Front.TheVariants.{Is, Not}
-use Rattle.lines.specs.declared.Alone.TheVariants.{Only, Other}
 use Rattle.sheets.specs.Check.{behind_of}
 
 -- ---- numbers
@@ -109,19 +108,16 @@ proper_led (x ∷ (y ∷ s)) e d =
     go true false e b f c g h = absurd (subst T (sym h) tt)
     go false a e b f c g h = absurd (subst T (sym h) tt)
 
-is_inj : (u v k j : ℕ) → Is u k ≡ Is v j → (u ≡ v) × (k ≡ j)
-is_inj u v k j e = (cc, cc)
-
 -- what is a number and nothing else is the number's numeral
-pub alone_numeral : (s : List ℕ) (v : ℕ) → alone_of s ≡ Only v → s ≡ numeral v
+pub alone_numeral : (s : List ℕ) (v : ℕ) → alone_of s ≡ Some v → s ≡ numeral v
 unfolding numeral
 alone_numeral s v e = go (proper (length (digits s)) (get_or s 0 0)) refl e
   where
-    lone : (u k : ℕ) → (b : Bool) → eqb k (length s) ≡ b → cond b (Only u) Other ≡ Only v → (u ≡ v) × (k ≡ length s)
+    lone : (u k : ℕ) → (b : Bool) → eqb k (length s) ≡ b → cond b (Some u) None ≡ Some v → (u ≡ v) × (k ≡ length s)
     lone u k true f e = (cc, eqb-true k (length s) f)
     lone u k false f e = let z : ◌≡◌ {A = ℕ} 0 1 = cc in absurd (omega arith)
 
-    go : (b : Bool) → proper (length (digits s)) (get_or s 0 0) ≡ b → whole s (cond b (Is (value 0 (digits s)) (length (digits s))) Not) ≡ Only v → s ≡ decimal 7 v
+    go : (b : Bool) → proper (length (digits s)) (get_or s 0 0) ≡ b → whole s (cond b (Some (value 0 (digits s), length (digits s))) None) ≡ Some v → s ≡ decimal 7 v
     go true p e =
         let a = lone (value 0 (digits s)) (length (digits s)) (eqb (length (digits s)) (length s)) refl e in
         let d = all_digits s a.1 in
@@ -139,9 +135,9 @@ starts_is (x ∷ w) (b ∷ s) e = go (eqb x b) refl e (starts_is w s)
     go false f h i = absurd (subst T (sym h) tt)
 
 -- a word and a number are the word and the number's numeral
-pub behind_numeral : (w l : List ℕ) (v : ℕ) → behind_of w l ≡ Only v → l ≡ w ++ numeral v
+pub behind_numeral : (w l : List ℕ) (v : ℕ) → behind_of w l ≡ Some v → l ≡ w ++ numeral v
 behind_numeral w l v e = go (starts w l) refl e
   where
-    go : (b : Bool) → starts w l ≡ b → cond b (alone_of (drop (length w) l)) Other ≡ Only v → l ≡ w ++ numeral v
+    go : (b : Bool) → starts w l ≡ b → cond b (alone_of (drop (length w) l)) None ≡ Some v → l ≡ w ++ numeral v
     go true f h = starts_is w l f ∙ ap (λ (k : List ℕ). w ++ k) (alone_numeral (drop (length w) l) v h)
     go false f h = let z : ◌≡◌ {A = ℕ} 0 1 = cc in absurd (omega arith)

@@ -10,22 +10,21 @@ use borrow.Author.Tests.{leb-true, leb-false}
 use lib.Dec.{T, leb, eqb}
 use lib.ListN.{length, take, set, length-replicate}
 use lib.Seq.{get_or-take, length-take-le}
+use Rattle.std.specs.Prelude.{Option, None, Some, Result, Ok, Err}
 use Rattle.sets.specs.Lists.{all}
 use Rattle.clashes.specs.Divisions.{at, Division, clash_free, groups}
 use Rattle.clashes.specs.Matrix.{Valid}
 use Rattle.clashes.proofs.ColouringLaws.{proper_free}
 use Rattle.lines.specs.Text.{Text, done, unended, ended, lines_of}
 use Rattle.lines.specs.Numeral.{numeral, one_line}
-use Rattle.lines.specs.declared.Alone.{Alone}
-use Rattle.lines.specs.declared.Alone.TheVariants.{Only, Other}
 use Rattle.lines.proofs.Basics.{cond_cases}
-use Rattle.sheets.specs.Check.{met, step_of, groups_word, behind_of, groups_of, placed, none as nobody, start, no_colours_up_to, after_up_to, check_from_up_to, sheet_up_to}
+use Rattle.sheets.specs.Check.{met, step_of, groups_word, behind_of, groups_of, placed, none as nobody, start, no_colours_up_to, after, check_from, sheet_up_to}
 use Rattle.sheets.specs.declared.Progress.{Progress}
+use Rattle.sheets.specs.declared.SheetFault.{SheetFault}
+use Rattle.sheets.specs.declared.Refused.{Refused}
+use Rattle.sheets.specs.declared.Division.{Division as Checked}
 use Rattle.sheets.specs.declared.Step.{Step}
-use Rattle.sheets.specs.declared.Step.TheVariants.{Stop, Count, Place}
-use Rattle.sheets.specs.declared.Checked.{Checked}
-use Rattle.sheets.specs.declared.Checked.TheVariants.{Accepted, Unread, Short, Refused}
-use Rattle.sheets.specs.declared.Outcome.{Outcome}
+use Rattle.sheets.specs.declared.Step.TheVariants.{Count, Place}
 use Rattle.sheet_texts.specs.Sheet.{member_lines, groups_text, sheet_text}
 use Rattle.texts.specs.Sheets.{SheetOf}
 use Rattle.texts.proofs.LineBytes.{bytes_of, bytes_are}
@@ -35,67 +34,58 @@ use Rattle.texts.proofs.SheetSteps.{opening, begins, Says, says}
 use Rattle.texts.proofs.SheetRest.{Known, Rest, no_length, line_text, at-end, size_known, size_rest}
 use Rattle.texts.proofs.SheetRestMember.{member_known, member_rest}
 
--- what an outcome says, where it accepts: P of k and the colours, and the entries are n
-abbrev Where : ℕ → (ℕ → List ℕ → Type 0) → List ℕ → ℕ → Checked → Type 0
-Where n P w m (Accepted k) = P k w × (m ≡ n)
-Where n P w m (Unread f k c) = Unit {0}
-Where n P w m Short = Unit {0}
-Where n P w m (Refused f k) = Unit {0}
+-- what a check finds, where it accepts: P of k and the colours, and the entries are n
+abbrev Found : ℕ → (ℕ → List ℕ → Type 0) → Result Checked Refused → Type 0
+Found n P (Ok d) = P d.groups d.colours × (d.entries ≡ n)
+Found n P (Err r) = Unit {0}
 
-abbrev Found : ℕ → (ℕ → List ℕ → Type 0) → Outcome → Type 0
-Found n P o = Where n P o.colours o.entries o.answer
-
-where_map : (n : ℕ) (P Q : ℕ → List ℕ → Type 0) (w : List ℕ) (m : ℕ) (a : Checked) → ((k : ℕ) → P k w → Q k w) → Where n P w m a → Where n Q w m a
-where_map n P Q w m (Accepted k) f x = (f k x.0, x.1)
-where_map n P Q w m (Unread e k c) f x = tt
-where_map n P Q w m Short f x = tt
-where_map n P Q w m (Refused e k) f x = tt
+found_map : (n : ℕ) (P Q : ℕ → List ℕ → Type 0) (a : Result Checked Refused) → ((k : ℕ) (w : List ℕ) → P k w → Q k w) → Found n P a → Found n Q a
+found_map n P Q (Ok d) f x = (f d.groups d.colours x.0, x.1)
+found_map n P Q (Err r) f x = tt
 
 -- ---- all lines but the first
 
-met_is : (p : Progress) → p.begun ≡ true → met p ≡ true → (p.need < 1) × (p.left < 1)
-met_is p b e = go p.begun b (leb 1 p.need) refl (leb 1 p.left) refl e
+met_is : (p : Progress) → met p ≡ true → (p.need < 1) × (p.left < 1)
+met_is p e = go (leb 1 p.need) refl (leb 1 p.left) refl e
   where
-    go : (b : Bool) → b ≡ true → (x : Bool) → leb 1 p.need ≡ x → (y : Bool) → leb 1 p.left ≡ y
-        → cond b (cond x false (cond y false true)) false ≡ true → (p.need < 1) × (p.left < 1)
-    go true b false x false y e = (leb-false 1 p.need x, leb-false 1 p.left y)
-    go true b false x true y e = absurd (subst T (sym e) tt)
-    go true b true x y z e = absurd (subst T (sym e) tt)
-    go false b x y z w e = absurd (subst T (sym b) tt)
+    go : (x : Bool) → leb 1 p.need ≡ x → (y : Bool) → leb 1 p.left ≡ y → cond x false (cond y false true) ≡ true → (p.need < 1) × (p.left < 1)
+    go false x false y e = (leb-false 1 p.need x, leb-false 1 p.left y)
+    go false x true y e = absurd (subst T (sym e) tt)
+    go true x y z e = absurd (subst T (sym e) tt)
 
 module _ (most n : ℕ) (few : n ≤ most) (clash : ℕ → ℕ → Bool) (valid : Valid n clash) where
   rest : (t : Text) (line : ℕ) (p : Progress) (mates earlier : ℕ → Bool) (c : List ℕ) → Known most n p mates earlier c
-      → Found n (Rest most n clash t p mates earlier c) (check_from_up_to most t n clash line p mates earlier c)
+      → Found n (Rest most n clash t p mates earlier c) (check_from t n clash line (Some p) mates earlier c)
   rest done line p mates earlier c st =
       let F = Found n (Rest most n clash done p mates earlier c) in
       cond_cases F (met p) _ _
       (λ e. cond_cases F (all n (λ j. earlier j || mates j)) _ _
-      (λ g. let m = met_is p st.begun e in (at-end most n few clash valid p mates earlier c st m.0 m.1 (subst T (sym g) tt), refl))
+      (λ g. let m = met_is p e in (at-end most n few clash valid p mates earlier c st m.0 m.1 (subst T (sym g) tt), refl))
       (λ _. tt))
       (λ _. tt)
-  rest (unended l) line p mates earlier c st = cond_cases (Found n (Rest most n clash (unended l) p mates earlier c)) (met p) _ _ (λ _. tt) (λ _. tt)
-  rest (ended l t) line p mates earlier c st = go (step_of n clash p mates earlier l) (says n clash p mates earlier l st.begun) (rest t (line + 1))
+  rest (unended l) line p mates earlier c st = tt
+  rest (ended l t) line p mates earlier c st = go (step_of n clash (Some p) mates earlier l) (says n clash p mates earlier l) (rest t (line + 1))
     where
-      go : (s : Step) → Says n clash p mates earlier l s
+      go : (s : Result Step SheetFault) → Says n clash p mates earlier l s
           → ((p : Progress) (mates earlier : ℕ → Bool) (c : List ℕ) → Known most n p mates earlier c
-          → Found n (Rest most n clash t p mates earlier c) (check_from_up_to most t n clash (line + 1) p mates earlier c))
-          → Found n (Rest most n clash (ended l t) p mates earlier c) (after_up_to most s line mates earlier c (check_from_up_to most t n clash (line + 1)))
-      go (Stop f) y r = tt
-      go (Count q) y r =
+          → Found n (Rest most n clash t p mates earlier c) (check_from t n clash (line + 1) (Some p) mates earlier c))
+          → Found n (Rest most n clash (ended l t) p mates earlier c) (after s line mates earlier c (check_from t n clash (line + 1)))
+      go (Err f) y r = tt
+      go (Ok (Count q)) y r =
           let E : ℕ → Bool = λ j. earlier j || mates j in
-          let o = check_from_up_to most t n clash (line + 1) (opening p y.size) nobody E c in
-          subst (λ (x : Progress). Found n (Rest most n clash (ended l t) p mates earlier c) (check_from_up_to most t n clash (line + 1) x nobody E c)) (sym y.next)
-          (where_map n (Rest most n clash t (opening p y.size) nobody E c) (Rest most n clash (ended l t) p mates earlier c) o.colours o.entries o.answer
-          (λ k z. size_rest most n few clash valid p mates earlier c st l q y t k _ z)
+          let o = check_from t n clash (line + 1) (Some (opening p y.size)) nobody E c in
+          subst (λ (x : Progress). Found n (Rest most n clash (ended l t) p mates earlier c) (check_from t n clash (line + 1) (Some x) nobody E c)) (sym y.next)
+          (found_map n (Rest most n clash t (opening p y.size) nobody E c) (Rest most n clash (ended l t) p mates earlier c) o
+          (λ k w z. size_rest most n few clash valid p mates earlier c st l q y t k w z)
           (r (opening p y.size) nobody E c (size_known most n few clash valid p mates earlier c st l q y)))
-      go (Place q i g) y r =
+      go (Ok (Place q i g)) y r =
           let M : ℕ → Bool = λ j. mates j || eqb i j in
           let d = set c i (p.opened - 1) in
-          let o = check_from_up_to most t n clash (line + 1) (placed p (i + 1)) M earlier d in
-          subst (λ (x : ℕ). Found n (Rest most n clash (ended l t) p mates earlier c) (check_from_up_to most t n clash (line + 1) q M earlier (set c i x))) (sym y.group)
-          (subst (λ (x : Progress). Found n (Rest most n clash (ended l t) p mates earlier c) (check_from_up_to most t n clash (line + 1) x M earlier d)) (sym y.next)
-          (where_map n (Rest most n clash t (placed p (i + 1)) M earlier d) (Rest most n clash (ended l t) p mates earlier c) o.colours o.entries o.answer
-          (λ k z. member_rest most n few clash valid p mates earlier c st l q i g y t k _ z)
+          let o = check_from t n clash (line + 1) (Some (placed p (i + 1))) M earlier d in
+          subst (λ (x : ℕ). Found n (Rest most n clash (ended l t) p mates earlier c) (check_from t n clash (line + 1) (Some q) M earlier (set c i x))) (sym y.group)
+          (subst (λ (x : Progress). Found n (Rest most n clash (ended l t) p mates earlier c) (check_from t n clash (line + 1) (Some x) M earlier d)) (sym y.next)
+          (found_map n (Rest most n clash t (placed p (i + 1)) M earlier d) (Rest most n clash (ended l t) p mates earlier c) o
+          (λ k w z. member_rest most n few clash valid p mates earlier c st l q i g y t k w z)
           (r (placed p (i + 1)) M earlier d (member_known most n few clash valid p mates earlier c st l q i g y))))
 
 -- ---- the first line
@@ -103,7 +93,6 @@ module _ (most n : ℕ) (few : n ≤ most) (clash : ℕ → ℕ → Bool) (valid
 module _ (most longest n : ℕ) (few : n ≤ most) (clash : ℕ → ℕ → Bool) (valid : Valid n clash) where
   begins_known : (k : ℕ) → Known most n (begins k) nobody (λ j. nobody j || nobody j) (no_colours_up_to most)
   begins_known k = record {
-    begun = refl;
     size = length-replicate most 0;
     mate_floor = λ j x. absurd x;
     mate_group = λ j x. absurd x;
@@ -163,31 +152,30 @@ module _ (most longest n : ℕ) (few : n ≤ most) (clash : ℕ → ℕ → Bool
   abbrev Sheet : List ℕ → ℕ → List ℕ → Type 0
   Sheet b k w = length b ≤ longest → SheetOf longest n clash b k (take n w)
 
-  lines_accepted : (t : Text) → Found n (Sheet (bytes_of t)) (check_from_up_to most t n clash 1 start nobody nobody (no_colours_up_to most))
+  lines_accepted : (t : Text) → Found n (Sheet (bytes_of t)) (check_from t n clash 1 start nobody nobody (no_colours_up_to most))
   lines_accepted done = tt
   lines_accepted (unended l) = tt
   lines_accepted (ended l t) = go (behind_of groups_word l) refl
     where
-      go : (a : Alone) → behind_of groups_word l ≡ a
-          → Found n (Sheet (bytes_of (ended l t))) (after_up_to most (groups_of a) 1 nobody nobody (no_colours_up_to most) (check_from_up_to most t n clash 2))
-      go Other e = tt
-      go (Only g) e =
+      go : (a : Option ℕ) → behind_of groups_word l ≡ a
+          → Found n (Sheet (bytes_of (ended l t))) (after (groups_of a) 1 nobody nobody (no_colours_up_to most) (check_from t n clash 2))
+      go None e = tt
+      go (Some g) e =
           let E : ℕ → Bool = λ j. nobody j || nobody j in
-          let o = check_from_up_to most t n clash 2 (begins g) nobody E (no_colours_up_to most) in
-          where_map n (Rest most n clash t (begins g) nobody E (no_colours_up_to most)) (Sheet (bytes_of (ended l t))) o.colours o.entries o.answer
-          (λ k r z. is_sheet t g k _ r l (behind_numeral groups_word l g e) z) (rest most n few clash valid t 2 (begins g) nobody E (no_colours_up_to most) (begins_known g))
+          let o = check_from t n clash 2 (Some (begins g)) nobody E (no_colours_up_to most) in
+          found_map n (Rest most n clash t (begins g) nobody E (no_colours_up_to most)) (Sheet (bytes_of (ended l t))) o
+          (λ k w r z. is_sheet t g k w r l (behind_numeral groups_word l g e) z) (rest most n few clash valid t 2 (begins g) nobody E (no_colours_up_to most) (begins_known g))
 
   -- what is accepted with k is the sheet of a division into k groups, which the first n colours are
-  pub sheet_accepted : (s : List ℕ) (k : ℕ) → (sheet_up_to most longest n clash s).answer ≡ Accepted k
-      → SheetOf longest n clash s k (take n (sheet_up_to most longest n clash s).colours) × ((sheet_up_to most longest n clash s).entries ≡ n)
-  sheet_accepted s k a =
+  pub sheet_accepted : (s : List ℕ) (d : Checked) → sheet_up_to most longest n clash s ≡ Ok d
+      → SheetOf longest n clash s d.groups (take n d.colours) × (d.entries ≡ n)
+  sheet_accepted s d a =
       let P : ℕ → List ℕ → Type 0 = λ k w. SheetOf longest n clash s k (take n w) in
-      let o = sheet_up_to most longest n clash s in
-      subst (Where n P o.colours o.entries) a
+      subst (Found n P) a
       (cond_cases (Found n P) (leb (length s) longest) _ _
-      (λ e. let x = check_from_up_to most (lines_of s) n clash 1 start nobody nobody (no_colours_up_to most) in
-      where_map n (Sheet (bytes_of (lines_of s))) P x.colours x.entries x.answer
-      (λ k f. subst (λ (b : List ℕ). SheetOf longest n clash b k (take n x.colours)) (bytes_are s)
+      (λ e. let x = check_from (lines_of s) n clash 1 start nobody nobody (no_colours_up_to most) in
+      found_map n (Sheet (bytes_of (lines_of s))) P x
+      (λ k w f. subst (λ (b : List ℕ). SheetOf longest n clash b k (take n w)) (bytes_are s)
       (f (subst (λ (b : List ℕ). length b ≤ longest) (sym (bytes_are s)) (leb-true (length s) longest e))))
       (lines_accepted (lines_of s)))
       (λ _. tt))

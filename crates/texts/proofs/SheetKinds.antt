@@ -3,74 +3,73 @@ use Prim.Native.Nat.{ℕ}
 use mathlib.Core.Path.{◌≡◌, refl, sym, ap, ◌∙◌}
 use mathlib.Core.List.{List, [], ◌∷◌}
 use native.Mathlib.Omega.{arith}
+use Rattle.std.specs.Prelude.{Option, None, Some}
 use Rattle.lines.specs.Words.{alone_of}
-use Rattle.lines.specs.declared.Alone.{Alone}
-use Rattle.lines.specs.declared.Alone.TheVariants.{Only, Other}
 use Rattle.sheets.specs.Check.{groups_word, size_word, behind_of}
 use Rattle.texts.specs.SheetFaults.{Kind, groups_line, size_line, member_line, no_line, found, kind_of, Group, Saying, nothing, says, laid_group, laid_groups, laid}
 use Rattle.texts.proofs.Numerals.{behind_numeral}
 
 -- ---- a line
 
-groups_unsized : (l : List ℕ) (k : ℕ) → behind_of groups_word l ≡ Only k → behind_of size_word l ≡ Other
+groups_unsized : (l : List ℕ) (k : ℕ) → behind_of groups_word l ≡ Some k → behind_of size_word l ≡ None
 groups_unsized l k e = ap (behind_of size_word) (behind_numeral groups_word l k e)
 
-groups_alone : (l : List ℕ) (k : ℕ) → behind_of groups_word l ≡ Only k → alone_of l ≡ Other
+groups_alone : (l : List ℕ) (k : ℕ) → behind_of groups_word l ≡ Some k → alone_of l ≡ None
 groups_alone l k e = ap alone_of (behind_numeral groups_word l k e)
 
-size_alone : (l : List ℕ) (s : ℕ) → behind_of size_word l ≡ Only s → alone_of l ≡ Other
+size_alone : (l : List ℕ) (s : ℕ) → behind_of size_word l ≡ Some s → alone_of l ≡ None
 size_alone l s e = ap alone_of (behind_numeral size_word l s e)
 
-differ : (v : ℕ) (a : Alone) → a ≡ Only v → a ≡ Other → ⊥
+differ : (v : ℕ) (a : Option ℕ) → a ≡ Some v → a ≡ None → ⊥
 differ v a e f = let z : ◌≡◌ {A = ℕ} 0 1 = cc in omega arith
 
 -- a line by what is found behind each word
 module _ (l : List ℕ) where
-  pub groups_kind : (k : ℕ) → behind_of groups_word l ≡ Only k → kind_of l ≡ groups_line k
-  groups_kind k e = ap (λ (a : Alone). found a groups_line (found (behind_of size_word l) size_line (found (alone_of l) member_line no_line))) e
+  pub groups_kind : (k : ℕ) → behind_of groups_word l ≡ Some k → kind_of l ≡ groups_line k
+  groups_kind k e = ap (λ (a : Option ℕ). found a groups_line (found (behind_of size_word l) size_line (found (alone_of l) member_line no_line))) e
 
-  pub size_kind : (s : ℕ) → behind_of size_word l ≡ Only s → kind_of l ≡ size_line s
+  pub size_kind : (s : ℕ) → behind_of size_word l ≡ Some s → kind_of l ≡ size_line s
   size_kind s e = go (behind_of groups_word l) refl
     where
-      go : (a : Alone) → behind_of groups_word l ≡ a → found a groups_line (found (behind_of size_word l) size_line (found (alone_of l) member_line no_line)) ≡ size_line s
-      go (Only k) f = absurd (differ s (behind_of size_word l) e (groups_unsized l k f))
-      go Other f = ap (λ (a : Alone). found a size_line (found (alone_of l) member_line no_line)) e
+      go : (a : Option ℕ) → behind_of groups_word l ≡ a → found a groups_line (found (behind_of size_word l) size_line (found (alone_of l) member_line no_line)) ≡ size_line s
+      go (Some k) f = absurd (differ s (behind_of size_word l) e (groups_unsized l k f))
+      go None f = ap (λ (a : Option ℕ). found a size_line (found (alone_of l) member_line no_line)) e
 
-  pub member_kind : (u : ℕ) → alone_of l ≡ Only u → kind_of l ≡ member_line u
+  pub member_kind : (u : ℕ) → alone_of l ≡ Some u → kind_of l ≡ member_line u
   member_kind u e = go (behind_of groups_word l) refl (behind_of size_word l) refl
     where
-      go : (a : Alone) → behind_of groups_word l ≡ a → (b : Alone) → behind_of size_word l ≡ b
+      go : (a : Option ℕ) → behind_of groups_word l ≡ a → (b : Option ℕ) → behind_of size_word l ≡ b
           → found a groups_line (found b size_line (found (alone_of l) member_line no_line)) ≡ member_line u
-      go (Only k) f b g = absurd (differ u (alone_of l) e (groups_alone l k f))
-      go Other f (Only s) g = absurd (differ u (alone_of l) e (size_alone l s g))
-      go Other f Other g = ap (λ (a : Alone). found a member_line no_line) e
+      go (Some k) f b g = absurd (differ u (alone_of l) e (groups_alone l k f))
+      go None f (Some s) g = absurd (differ u (alone_of l) e (size_alone l s g))
+      go None f None g = ap (λ (a : Option ℕ). found a member_line no_line) e
 
-  pub kind_groups : (k : ℕ) → kind_of l ≡ groups_line k → behind_of groups_word l ≡ Only k
+  pub kind_groups : (k : ℕ) → kind_of l ≡ groups_line k → behind_of groups_word l ≡ Some k
   kind_groups k e = go (behind_of groups_word l) (behind_of size_word l) (alone_of l) e
     where
-      go : (a b c : Alone) → found a groups_line (found b size_line (found c member_line no_line)) ≡ groups_line k → a ≡ Only k
-      go (Only j) b c e = let q : j ≡ k = cc in ap Only q
-      go Other (Only s) c e = let z : ◌≡◌ {A = ℕ} 0 1 = cc in absurd (omega arith)
-      go Other Other (Only u) e = let z : ◌≡◌ {A = ℕ} 0 1 = cc in absurd (omega arith)
-      go Other Other Other e = let z : ◌≡◌ {A = ℕ} 0 1 = cc in absurd (omega arith)
+      go : (a b c : Option ℕ) → found a groups_line (found b size_line (found c member_line no_line)) ≡ groups_line k → a ≡ Some k
+      go (Some j) b c e = let q : j ≡ k = cc in ap (λ (x : ℕ). Some x) q
+      go None (Some s) c e = let z : ◌≡◌ {A = ℕ} 0 1 = cc in absurd (omega arith)
+      go None None (Some u) e = let z : ◌≡◌ {A = ℕ} 0 1 = cc in absurd (omega arith)
+      go None None None e = let z : ◌≡◌ {A = ℕ} 0 1 = cc in absurd (omega arith)
 
-  pub kind_size : (s : ℕ) → kind_of l ≡ size_line s → behind_of size_word l ≡ Only s
+  pub kind_size : (s : ℕ) → kind_of l ≡ size_line s → behind_of size_word l ≡ Some s
   kind_size s e = go (behind_of groups_word l) (behind_of size_word l) (alone_of l) e
     where
-      go : (a b c : Alone) → found a groups_line (found b size_line (found c member_line no_line)) ≡ size_line s → b ≡ Only s
-      go (Only j) b c e = let z : ◌≡◌ {A = ℕ} 0 1 = cc in absurd (omega arith)
-      go Other (Only j) c e = let q : j ≡ s = cc in ap Only q
-      go Other Other (Only u) e = let z : ◌≡◌ {A = ℕ} 0 1 = cc in absurd (omega arith)
-      go Other Other Other e = let z : ◌≡◌ {A = ℕ} 0 1 = cc in absurd (omega arith)
+      go : (a b c : Option ℕ) → found a groups_line (found b size_line (found c member_line no_line)) ≡ size_line s → b ≡ Some s
+      go (Some j) b c e = let z : ◌≡◌ {A = ℕ} 0 1 = cc in absurd (omega arith)
+      go None (Some j) c e = let q : j ≡ s = cc in ap (λ (x : ℕ). Some x) q
+      go None None (Some u) e = let z : ◌≡◌ {A = ℕ} 0 1 = cc in absurd (omega arith)
+      go None None None e = let z : ◌≡◌ {A = ℕ} 0 1 = cc in absurd (omega arith)
 
-  pub kind_member : (u : ℕ) → kind_of l ≡ member_line u → alone_of l ≡ Only u
+  pub kind_member : (u : ℕ) → kind_of l ≡ member_line u → alone_of l ≡ Some u
   kind_member u e = go (behind_of groups_word l) (behind_of size_word l) (alone_of l) e
     where
-      go : (a b c : Alone) → found a groups_line (found b size_line (found c member_line no_line)) ≡ member_line u → c ≡ Only u
-      go (Only j) b c e = let z : ◌≡◌ {A = ℕ} 0 1 = cc in absurd (omega arith)
-      go Other (Only s) c e = let z : ◌≡◌ {A = ℕ} 0 1 = cc in absurd (omega arith)
-      go Other Other (Only j) e = let q : j ≡ u = cc in ap Only q
-      go Other Other Other e = let z : ◌≡◌ {A = ℕ} 0 1 = cc in absurd (omega arith)
+      go : (a b c : Option ℕ) → found a groups_line (found b size_line (found c member_line no_line)) ≡ member_line u → c ≡ Some u
+      go (Some j) b c e = let z : ◌≡◌ {A = ℕ} 0 1 = cc in absurd (omega arith)
+      go None (Some s) c e = let z : ◌≡◌ {A = ℕ} 0 1 = cc in absurd (omega arith)
+      go None None (Some j) e = let q : j ≡ u = cc in ap (λ (x : ℕ). Some x) q
+      go None None None e = let z : ◌≡◌ {A = ℕ} 0 1 = cc in absurd (omega arith)
 
 -- ---- lines
 

@@ -11,11 +11,11 @@ use mathlib.Core.Bool.{Bool, true, false, cond, ◌&&◌, ◌||◌}
 use native.Mathlib.Omega.{arith}
 use lib.Dec.{T, eqb, eqb→eq}
 use lib.ListN.{length}
+use Rattle.std.specs.Prelude.{None, Some}
 use Rattle.sets.specs.Lists.{In, any}
 use Rattle.sets.proofs.TestLaws.{and_l, and_r, and_t, or_l, or_r, or_cases, eqb_of, any_get, any_make}
 use Rattle.lines.specs.Text.{Text, ended, line_no_lem, Within}
 use Rattle.lines.specs.Words.{alone_of}
-use Rattle.lines.specs.declared.Alone.TheVariants.{Only, Other}
 use Rattle.sheets.specs.Check.{size_word, behind_of, placed, none as nobody}
 use Rattle.sheets.specs.declared.SheetFault.{SheetFault}
 use Rattle.sheets.specs.declared.SheetFault.TheVariants.{Long, Line, Member, Order, Twice, Clash, Ends, Missing, Extra}
@@ -42,7 +42,6 @@ module _ (n : ℕ) (clash : ℕ → ℕ → Bool) where
     pub rest : After t0 i t
     pub clean : (j : ℕ) → j ≤ i → Clean (Has n clash t0) j
     pub lines : before t0 i ≡ laid (says k gs)
-    pub begun : p.begun ≡ true
     pub left : k ≡ p.left + length gs
     pub need : p.need ≡ need_of gs
     pub floor : p.floor ≡ floor_of gs
@@ -92,18 +91,17 @@ module _ (n : ℕ) (clash : ℕ → ℕ → Bool) where
 
     -- ---- at the place of a size
 
-    pub no_size : p.need < 1 → 1 ≤ p.left → ((s : ℕ) → 1 ≤ s → ¬ (behind_of size_word l ≡ Only s)) → Found n clash t0 Line (suc i)
+    pub no_size : p.need < 1 → 1 ≤ p.left → ((s : ℕ) → 1 ≤ s → ¬ (behind_of size_word l ≡ Some s)) → Found n clash t0 Line (suc i)
     no_size a b e =
         misshaped t0 i k gs h.lines in-text h.clean
         (inl (inr (inl ((omega (arith, h.need), omega (arith, h.left)), λ s c q. e s c (kind_size l s (sym kind_is ∙ q))))))
 
-    pub size_held : p.need < 1 → 1 ≤ p.left → (s : ℕ) → 1 ≤ s → behind_of size_word l ≡ Only s
+    pub size_held : p.need < 1 → 1 ≤ p.left → (s : ℕ) → 1 ≤ s → behind_of size_word l ≡ Some s
         → Held t0 (suc i) k (record { size = s; members = [] } ∷ gs) (opening p s) nobody (λ j. earlier j || mates j) t
     size_held a b s c e = record {
       rest = after_next t0 i l t h.rest;
       clean = clean_more n clash t0 i h.clean (line_clean n clash t0 i (says k gs) h.lines clean);
       lines = ap (λ (x : Kind). x ∷ before t0 i) (kind_is ∙ size_kind l s e) ∙ ap (λ (x : List Kind). size_line s ∷ x) h.lines;
-      begun = refl;
       left = omega (arith, h.left);
       need = omega arith;
       floor = h.first;
@@ -136,12 +134,12 @@ module _ (n : ℕ) (clash : ℕ → ℕ → Bool) where
       here : MemberPlace (says k gs)
       here = subst (λ (x : ℕ). 1 ≤ x) h.need a
 
-      pub no_member : alone_of l ≡ Other → Found n clash t0 Line (suc i)
+      pub no_member : alone_of l ≡ None → Found n clash t0 Line (suc i)
       no_member e =
           misshaped t0 i k gs h.lines in-text h.clean
           (inl (inr (inr (here, λ u q. let r = kind_member l u (sym kind_is ∙ q) in let z : ◌≡◌ {A = ℕ} 0 1 = cc in omega arith))))
 
-      module _ (u : ℕ) (e : alone_of l ≡ Only u) where
+      module _ (u : ℕ) (e : alone_of l ≡ Some u) where
         stands : MemberAt t0 (suc i) (says k gs) u
         stands = (here, kind_is ∙ member_kind l u e)
 
@@ -259,14 +257,13 @@ module _ (n : ℕ) (clash : ℕ → ℕ → Bool) where
   first_held (v ∷ us) f u first fresh a b = rw a b
 
   pub member_held : (t0 : Text) (i k : ℕ) (g : Group) (gs : List Group) (p : Progress) (mates earlier : ℕ → Bool) (l : List ℕ) (t : Text)
-      → Held t0 i k (g ∷ gs) p mates earlier (ended l t) → 1 ≤ p.need → (u : ℕ) → alone_of l ≡ Only u → (1 ≤ u) × (u ≤ n) → p.floor < u
+      → Held t0 i k (g ∷ gs) p mates earlier (ended l t) → 1 ≤ p.need → (u : ℕ) → alone_of l ≡ Some u → (1 ≤ u) × (u ≤ n) → p.floor < u
       → earlier (u - 1) ≡ false → any n (λ j. mates j && clash (u - 1) j) ≡ false
       → Held t0 (suc i) k (record { size = g.size; members = u ∷ g.members } ∷ gs) (placed p u) (λ j. mates j || eqb (u - 1) j) earlier t
   member_held t0 i k g gs p mates earlier l t h a u e b d c q = record {
     rest = after_next t0 i l t h.rest;
     clean = clean_more n clash t0 i h.clean (line_clean n clash t0 i (says k (g ∷ gs)) h.lines (member_clean t0 i k (g ∷ gs) p mates earlier l t h a u e b d c q));
     lines = ap (λ (x : Kind). x ∷ before t0 i) (kind_is t0 i k (g ∷ gs) p mates earlier l t h ∙ member_kind l u e) ∙ ap (λ (x : List Kind). member_line u ∷ x) h.lines;
-    begun = refl;
     left = h.left;
     need = omega (arith, h.need);
     floor = refl;

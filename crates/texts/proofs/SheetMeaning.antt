@@ -8,14 +8,13 @@ use native.Mathlib.Omega.{arith}
 use borrow.Author.Tests.{eqb-true}
 use lib.Dec.{T, eqb}
 use lib.ListN.{length, take}
+use Rattle.std.specs.Prelude.{Result, Ok, Err}
 use Rattle.clashes.specs.Divisions.{clash_free, groups}
 use Rattle.clashes.specs.Matrix.{Valid}
 use Rattle.lines.specs.Text.{Text, lines_of}
 use Rattle.sheets.specs.Check.{accepted, sheet_up_to}
-use Rattle.sheets.specs.declared.SheetFault.{SheetFault}
-use Rattle.sheets.specs.declared.Checked.{Checked}
-use Rattle.sheets.specs.declared.Checked.TheVariants.{Accepted, Unread, Short, Refused}
-use Rattle.sheets.specs.declared.Outcome.{Outcome}
+use Rattle.sheets.specs.declared.Refused.{Refused}
+use Rattle.sheets.specs.declared.Division.{Division as Checked}
 use Rattle.sheet_texts.specs.Sheet.{sheet_text}
 use Rattle.sheet_texts.proofs.Calls.{read_up_to_free}
 use Rattle.texts.specs.Faults.{Faultless}
@@ -67,7 +66,7 @@ module _ (n : ℕ) (clash : ℕ → ℕ → Bool) where
 
       sheet_faultless : (k : ℕ) (c : List ℕ) → SheetOf longest n clash s k c → Faultless longest s (Has n clash (lines_of s)) (Lacks n (lines_of s))
       sheet_faultless k c q =
-          subst (SheetMeans n n clash longest s) (ap (λ (o : Outcome). o.answer) (read_back k c q).2) (sheet_means n n clash longest s)
+          subst (SheetMeans n n clash longest s) (read_back k c q).2 (sheet_means n n clash longest s)
 
       pub sheet_unrefused : (k : ℕ) (c : List ℕ) → SheetOf longest n clash s k c → (f j : ℕ) → ¬ SheetRefused longest n clash s f j
       sheet_unrefused k c q = refusal_none longest s (Has n clash (lines_of s)) sheet_order (Lacks n (lines_of s)) (sheet_faultless k c q)
@@ -79,35 +78,34 @@ module _ (n : ℕ) (clash : ℕ → ℕ → Bool) where
           let x = read_back k c a in
           let y = read_back m d b in
           let e : accepted n k x.0 ≡ accepted n m y.0 = sym x.2 ∙ y.2 in
-          let q : Accepted k ≡ Accepted m = ap (λ (o : Outcome). o.answer) e in
-          (cc, sym x.1 ∙ ap (λ (o : Outcome). take n o.colours) e ∙ y.1)
+          let q : found k x.0 ≡ found m y.0 = cc in
+          (ap (λ (o : Checked). o.groups) q, sym x.1 ∙ ap (λ (o : Checked). take n o.colours) q ∙ y.1)
+        where
+          found : ℕ → List ℕ → Checked
+          found k w = record { groups = k; entries = n; colours = w }
 
     -- ---- what checking answers
 
     -- each sheet of a clash-free division is accepted with it
     module _ (most : ℕ) (room : n ≤ most) (sevens : n < 10000000) (valid : Valid n clash) where
       pub sheet_taken : (k : ℕ) (c : List ℕ) → SheetOf longest n clash s k c
-          → ((sheet_up_to most longest n clash s).answer ≡ Accepted k) × (take n (sheet_up_to most longest n clash s).colours ≡ c) × ((sheet_up_to most longest n clash s).entries ≡ n)
-      sheet_taken k c q = go (sheet_up_to most longest n clash s).answer refl (sheet_means most n clash longest s)
+          → (d : Checked) × (sheet_up_to most longest n clash s ≡ Ok d) × (d.groups ≡ k) × (take n d.colours ≡ c) × (d.entries ≡ n)
+      sheet_taken k c q = go (sheet_up_to most longest n clash s) refl (sheet_means most n clash longest s)
         where
-          go : (a : Checked) → (sheet_up_to most longest n clash s).answer ≡ a → SheetMeans most n clash longest s a
-              → ((sheet_up_to most longest n clash s).answer ≡ Accepted k) × (take n (sheet_up_to most longest n clash s).colours ≡ c)
-              × ((sheet_up_to most longest n clash s).entries ≡ n)
-          go (Accepted m) e x =
-              let r = sheet_accepted most longest n room clash valid s m e in
-              let o = sheet_one sevens m k _ c r.0 q in
-              (e ∙ ap Accepted o.0, o.1, r.1)
-          go (Refused f j) e x = absurd (sheet_unrefused sevens k c q (number_of f) j x)
-          go (Unread f j c) e x = absurd x
-          go Short e x = absurd x
+          go : (a : Result Checked Refused) → sheet_up_to most longest n clash s ≡ a → SheetMeans most n clash longest s a
+              → (d : Checked) × (sheet_up_to most longest n clash s ≡ Ok d) × (d.groups ≡ k) × (take n d.colours ≡ c) × (d.entries ≡ n)
+          go (Ok d) e x =
+              let r = sheet_accepted most longest n room clash valid s d e in
+              let o = sheet_one sevens d.groups k _ c r.0 q in
+              (d, e, o.0, o.1, r.1)
+          go (Err r) e x = absurd (sheet_unrefused sevens k c q (number_of r.why) r.line x)
 
     -- each sheet that is refused in words is refused so
-    pub sheet_returned : (most f k : ℕ) → SheetRefused longest n clash s f k → (g : SheetFault) × ((sheet_up_to most longest n clash s).answer ≡ Refused g k) × (number_of g ≡ f)
-    sheet_returned most f k h = go (sheet_up_to most longest n clash s).answer refl (sheet_means most n clash longest s)
+    pub sheet_returned : (most f k : ℕ) → SheetRefused longest n clash s f k
+        → (r : Refused) × (sheet_up_to most longest n clash s ≡ Err r) × (number_of r.why ≡ f) × (r.line ≡ k)
+    sheet_returned most f k h = go (sheet_up_to most longest n clash s) refl (sheet_means most n clash longest s)
       where
-        go : (a : Checked) → (sheet_up_to most longest n clash s).answer ≡ a → SheetMeans most n clash longest s a
-            → (g : SheetFault) × ((sheet_up_to most longest n clash s).answer ≡ Refused g k) × (number_of g ≡ f)
-        go (Accepted m) e x = absurd (refusal_none longest s (Has n clash (lines_of s)) sheet_order (Lacks n (lines_of s)) x f k h)
-        go (Refused g j) e x = let o = sheet_refusal_one (number_of g) f j k x h in (g, e ∙ ap (Refused g) o.1, o.0)
-        go (Unread f j c) e x = absurd x
-        go Short e x = absurd x
+        go : (a : Result Checked Refused) → sheet_up_to most longest n clash s ≡ a → SheetMeans most n clash longest s a
+            → (r : Refused) × (sheet_up_to most longest n clash s ≡ Err r) × (number_of r.why ≡ f) × (r.line ≡ k)
+        go (Ok d) e x = absurd (refusal_none longest s (Has n clash (lines_of s)) sheet_order (Lacks n (lines_of s)) x f k h)
+        go (Err r) e x = let o = sheet_refusal_one (number_of r.why) f r.line k x h in (r, e, o.0, o.1)

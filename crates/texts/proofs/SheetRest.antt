@@ -28,7 +28,6 @@ use Rattle.texts.proofs.Numbered.{members_skip}
 use Rattle.texts.proofs.SheetSteps.{opening, SaysSize}
 
 pub record Known (most n : ℕ) (p : Progress) (mates earlier : ℕ → Bool) (colours : List ℕ) : Type 0 where
-  pub begun : p.begun ≡ true
   pub size : length colours ≡ most
   pub mate_floor : (j : ℕ) → T (mates j) → j < p.floor
   pub mate_group : (j : ℕ) → T (mates j) → at colours j + 1 ≡ p.opened
@@ -110,7 +109,6 @@ module _ (most n : ℕ) (few : n ≤ most) (clash : ℕ → ℕ → Bool) (valid
       (s : SaysSize n clash p mates earlier l q) where
     pub size_known : Known most n (opening p s.size) nobody (λ j. earlier j || mates j) colours
     size_known = record {
-      begun = refl;
       size = st.size;
       mate_floor = λ j x. absurd x;
       mate_group = λ j x. absurd x;

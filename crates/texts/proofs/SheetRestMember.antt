@@ -28,7 +28,6 @@ module _ (most n : ℕ) (few : n ≤ most) (clash : ℕ → ℕ → Bool) (valid
       (s : SaysMember n clash p mates earlier l q i g) where
     pub member_known : Known most n (placed p (i + 1)) (λ j. mates j || eqb i j) earlier (set colours i (p.opened - 1))
     member_known = record {
-      begun = refl;
       size = length-set colours i (p.opened - 1) ∙ st.size;
       mate_floor = λ j x. ⊎_elim (λ y. omega (arith, st.mate_floor j y, s.above)) (λ y. omega (arith, eqb→eq i j y)) (or_cases (mates j) (eqb i j) x);
       mate_group = λ j x.

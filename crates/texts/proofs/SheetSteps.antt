@@ -8,25 +8,25 @@ use mathlib.Core.Bool.{Bool, true, false, cond, ◌&&◌}
 use native.Mathlib.Omega.{arith}
 use borrow.Author.Tests.{leb-true, leb-false, ltb-true}
 use lib.Dec.{leb, ltb}
+use Rattle.std.specs.Prelude.{Option, None, Some, Result, Ok, Err}
 use Rattle.sets.specs.Lists.{any}
 use Rattle.lines.specs.Words.{alone_of}
 use Rattle.lines.specs.Numeral.{numeral}
-use Rattle.lines.specs.declared.Alone.{Alone}
-use Rattle.lines.specs.declared.Alone.TheVariants.{Only, Other}
 use Rattle.lists.specs.Read.{inside}
 use Rattle.lists.proofs.Fold.{inside_is}
-use Rattle.sheets.specs.Check.{groups_word, size_word, behind_of, groups_of, size_of, placed, member_of_lem, step_of}
+use Rattle.sheets.specs.Check.{size_word, behind_of, size_of, placed, member_of_lem, step_of}
 use Rattle.sheets.specs.declared.Progress.{Progress}
+use Rattle.sheets.specs.declared.SheetFault.{SheetFault}
 use Rattle.sheets.specs.declared.SheetFault.TheVariants.{Line, Member, Order, Twice, Clash, Extra}
 use Rattle.sheets.specs.declared.Step.{Step}
-use Rattle.sheets.specs.declared.Step.TheVariants.{Stop, Count, Place}
+use Rattle.sheets.specs.declared.Step.TheVariants.{Count, Place}
 use Rattle.texts.proofs.Numerals.{alone_numeral, behind_numeral}
 
 abbrev pub opening : Progress → ℕ → Progress
-opening p s = record { begun = true; left = p.left - 1; need = s; opened = p.opened + 1; fresh = true; first = p.first; floor = p.first }
+opening p s = record { left = p.left - 1; need = s; opened = p.opened + 1; fresh = true; first = p.first; floor = p.first }
 
 abbrev pub begins : ℕ → Progress
-begins k = record { begun = true; left = k; need = 0; opened = 0; fresh = false; first = 0; floor = 0 }
+begins k = record { left = k; need = 0; opened = 0; fresh = false; first = 0; floor = 0 }
 
 module _ (n : ℕ) (clash : ℕ → ℕ → Bool) (p : Progress) (mates earlier : ℕ → Bool) (l : List ℕ) where
   pub record SaysSize (q : Progress) : Type 0 where
@@ -47,25 +47,25 @@ module _ (n : ℕ) (clash : ℕ → ℕ → Bool) (p : Progress) (mates earlier 
     pub next : q ≡ placed p (i + 1)
     pub group : g ≡ p.opened - 1
 
-  abbrev pub Says : Step → Type 0
-  Says (Stop f) = Unit {0}
-  Says (Count q) = SaysSize q
-  Says (Place q i g) = SaysMember q i g
+  abbrev pub Says : Result Step SheetFault → Type 0
+  Says (Err f) = Unit {0}
+  Says (Ok (Count q)) = SaysSize q
+  Says (Ok (Place q i g)) = SaysMember q i g
 
-  says_size : (a : Alone) → behind_of size_word l ≡ a → p.need < 1 → 1 ≤ p.left → Says (size_of p a)
-  says_size Other e d f = tt
-  says_size (Only s) e d f = go (leb 1 s) refl
+  says_size : (a : Option ℕ) → behind_of size_word l ≡ a → p.need < 1 → 1 ≤ p.left → Says (size_of p a)
+  says_size None e d f = tt
+  says_size (Some s) e d f = go (leb 1 s) refl
     where
-      go : (b : Bool) → leb 1 s ≡ b → Says (cond b (Count (opening p s)) (Stop Line))
+      go : (b : Bool) → leb 1 s ≡ b → Says (cond b (Ok (Count (opening p s))) (Err Line))
       go true h = record { size = s; line = behind_numeral size_word l s e; some = leb-true 1 s h; none = d; left = f; next = refl }
       go false h = tt
 
-  says_member : (a : Alone) → alone_of l ≡ a → 1 ≤ p.need → Says (member_of_lem n clash p mates earlier a)
-  says_member Other e d = tt
-  says_member (Only u) e d = go (inside n u) refl (ltb p.floor u) refl (earlier (u - 1)) refl (any n (λ j. mates j && clash (u - 1) j)) refl
+  says_member : (a : Option ℕ) → alone_of l ≡ a → 1 ≤ p.need → Says (member_of_lem n clash p mates earlier a)
+  says_member None e d = tt
+  says_member (Some u) e d = go (inside n u) refl (ltb p.floor u) refl (earlier (u - 1)) refl (any n (λ j. mates j && clash (u - 1) j)) refl
     where
       go : (a : Bool) → inside n u ≡ a → (b : Bool) → ltb p.floor u ≡ b → (x : Bool) → earlier (u - 1) ≡ x → (y : Bool) → any n (λ j. mates j && clash (u - 1) j) ≡ y
-          → Says (cond a (cond b (cond x (Stop Twice) (cond y (Stop Clash) (Place (placed p u) (u - 1) (p.opened - 1)))) (Stop Order)) (Stop Member))
+          → Says (cond a (cond b (cond x (Err Twice) (cond y (Err Clash) (Ok (Place (placed p u) (u - 1) (p.opened - 1))))) (Err Order)) (Err Member))
       go true h true i false j false k =
           let w = inside_is n u h in
           let z : u ≡ u - 1 + 1 = omega (arith, w.0) in
@@ -84,12 +84,11 @@ module _ (n : ℕ) (clash : ℕ → ℕ → Bool) (p : Progress) (mates earlier 
       go true h false i x j y k = tt
       go false h b i x j y k = tt
 
-  pub says : p.begun ≡ true → Says (step_of n clash p mates earlier l)
-  says b = go p.begun b (leb 1 p.need) refl (leb 1 p.left) refl
+  pub says : Says (step_of n clash (Some p) mates earlier l)
+  says = go (leb 1 p.need) refl (leb 1 p.left) refl
     where
-      go : (x : Bool) → x ≡ true → (y : Bool) → leb 1 p.need ≡ y → (z : Bool) → leb 1 p.left ≡ z
-          → Says (cond x (cond y (member_of_lem n clash p mates earlier (alone_of l)) (cond z (size_of p (behind_of size_word l)) (Stop Extra))) (groups_of (behind_of groups_word l)))
-      go true b true d z f = says_member (alone_of l) refl (leb-true 1 p.need d)
-      go true b false d true f = says_size (behind_of size_word l) refl (leb-false 1 p.need d) (leb-true 1 p.left f)
-      go true b false d false f = tt
-      go false b y d z f = let z : ◌≡◌ {A = ℕ} 0 1 = cc in absurd (omega arith)
+      go : (y : Bool) → leb 1 p.need ≡ y → (z : Bool) → leb 1 p.left ≡ z
+          → Says (cond y (member_of_lem n clash p mates earlier (alone_of l)) (cond z (size_of p (behind_of size_word l)) (Err Extra)))
+      go true d z f = says_member (alone_of l) refl (leb-true 1 p.need d)
+      go false d true f = says_size (behind_of size_word l) refl (leb-false 1 p.need d) (leb-true 1 p.left f)
+      go false d false f = tt

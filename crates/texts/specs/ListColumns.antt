@@ -12,12 +12,11 @@
 --   ColumnOf t f k c : c is the column told with the number f and the line k
 --
 -- Assumes nothing.
-use Rattle.std.specs.Prelude.{ℕ, zero, suc, ◌-◌, ◌≡◌, List, [], ◌∷◌, Bool, true, false, cond, T, eqb, take, drop}
+use Rattle.std.specs.Prelude.{ℕ, zero, suc, ◌-◌, ◌≡◌, List, [], ◌∷◌, Bool, true, false, None, cond, T, eqb, take, drop}
 use Rattle.sets.specs.Lists.{some?}
 use Rattle.refusals.specs.Table.{number_of, If}
 use Rattle.refusals.specs.declared.Refusal.TheVariants.{Line, Digit, Space, Unended}
 use Rattle.lines.specs.Text.{Text, line_no_lem}
-use Rattle.lists.specs.declared.Shape.TheVariants.{Bad}
 use Rattle.lists.specs.Expect.{letter, space, number, more, anything, Pieces, Due, Astray, digit_at, permitted}
 use Rattle.texts.specs.Listed.{At}
 
@@ -55,7 +54,7 @@ gap_due (anything ∷ g) d = true
 -- ---- the line, and its column
 
 pub record Went (t : Text) (k : ℕ) (q : Pieces → Bool → Bool) : Type 0 where
-  pub bad : At t k Bad
+  pub bad : At t k None
   pub column : ℕ
   pub astray : Astray permitted (line_at t k) column
   pub expected : Pieces

@@ -16,14 +16,12 @@
 --   SheetRefused longest n clash s f k : the sheet s is refused with the number f and the line k
 --
 -- Assumes nothing.
-use Rattle.std.specs.Prelude.{ℕ, zero, suc, ◌-◌, ◌≤◌, ◌<◌, ◌≡◌, ◌⊎◌, List, [], ◌∷◌, Bool, T, eqb, length}
+use Rattle.std.specs.Prelude.{ℕ, zero, suc, ◌-◌, ◌≤◌, ◌<◌, ◌≡◌, ◌⊎◌, List, [], ◌∷◌, Bool, Option, None, Some, T, eqb, length}
 use Rattle.sets.specs.Lists.{In}
 use Rattle.refusals.specs.Table.{number_of, If}
 use Rattle.refusals.specs.declared.Refusal.TheVariants.{SheetLine, Member, Order, Twice, Clash, Ends, Missing, Extra}
 use Rattle.lines.specs.Text.{Text, lines_of, line_no_lem, line_count}
 use Rattle.lines.specs.Words.{alone_of}
-use Rattle.lines.specs.declared.Alone.{Alone}
-use Rattle.lines.specs.declared.Alone.TheVariants.{Only, Other}
 use Rattle.sheets.specs.Check.{groups_word, size_word, behind_of}
 use Rattle.texts.specs.Faults.{Unended, Outside, Refusal}
 
@@ -36,9 +34,9 @@ pub data Kind : Type 0 where
   no_line : Kind
 
 -- the kind of a number that is found, else what else it is
-abbrev pub found : Alone → (ℕ → Kind) → Kind → Kind
-found (Only v) kind else = kind v
-found Other kind else = else
+abbrev pub found : Option ℕ → (ℕ → Kind) → Kind → Kind
+found (Some v) kind else = kind v
+found None kind else = else
 
 abbrev pub kind_of : List ℕ → Kind
 kind_of l = found (behind_of groups_word l) groups_line (found (behind_of size_word l) size_line (found (alone_of l) member_line no_line))

@@ -4,60 +4,55 @@
 #![tactic(auto)]
 
 use bounds::Bound;
-use refusals::Refusal;
+use refusals::{Invalid, Refusal};
 use std::io;
 
-fn refused(rt: &impl Print, why: Refusal, row: usize) -> io::Result<()> {
-    trials::put(rt, b" refused ")?;
-    trials::put_refused_row(rt, why, row)
-}
-
-fn tell(rt: &impl Print, b: Bound) -> io::Result<()> {
-    match b {
-        Bound::At(value, _members) => {
-            trials::put(rt, b" ")?;
-            trials::put_number(rt, value)
+fn tell(rt: &impl Print, bound: Result<Bound, Invalid>) -> io::Result<()> {
+    match bound {
+        Ok(bound) => print!(rt; " {}", bound.size),
+        Err(why) => {
+            print!(rt;
+                " refused {} row {}",
+                Refusal::from(why).number(),
+                why.row()
+            )
         }
-        Bound::Many => refused(rt, Refusal::Many, 0),
-        Bound::Stray(row) => refused(rt, Refusal::Stray, row),
-        Bound::Itself(row) => refused(rt, Refusal::Itself, row),
-        Bound::OneSided(row) => refused(rt, Refusal::OneSided, row),
     }
 }
 
-fn show(rt: &impl Print, name: &[u8], rows: &[u64]) -> io::Result<()> {
-    trials::put(rt, name)?;
+fn show(rt: &impl Print, name: &str, rows: &[u64]) -> io::Result<()> {
+    print!(rt; "{name}")?;
     tell(rt, bounds::clique_bound(rows))?;
     tell(rt, bounds::mycielskian_bound(rows))?;
-    trials::put(rt, b"\n")
+    println!(rt)
 }
 
 // The starred lists of document 01's table.
 fn starred(rt: &impl Print) -> io::Result<()> {
     let none = [0u64; 0];
-    show(rt, b"n = 0:", &none)?;
-    show(rt, b"n = 1:", &[0])?;
-    show(rt, b"n = 2, none:", &[0, 0])?;
-    show(rt, b"n = 2, 0-1:", &[2, 1])?;
-    show(rt, b"n = 3, none:", &[0, 0, 0])?;
-    show(rt, b"0-1, 1-2:", &[2, 5, 2])?;
-    show(rt, b"0-1, 1-2, 2-3, 0-3:", &[10, 5, 10, 5])?;
-    show(rt, b"0-1, 1-2, 2-3, 3-4, 0-4:", &[18, 5, 10, 20, 9])
+    show(rt, "n = 0:", &none)?;
+    show(rt, "n = 1:", &[0])?;
+    show(rt, "n = 2, none:", &[0, 0])?;
+    show(rt, "n = 2, 0-1:", &[2, 1])?;
+    show(rt, "n = 3, none:", &[0, 0, 0])?;
+    show(rt, "0-1, 1-2:", &[2, 5, 2])?;
+    show(rt, "0-1, 1-2, 2-3, 0-3:", &[10, 5, 10, 5])?;
+    show(rt, "0-1, 1-2, 2-3, 3-4, 0-4:", &[18, 5, 10, 20, 9])
 }
 
 // Its refusals.
 fn refusals_of_rows(rt: &impl Print) -> io::Result<()> {
     let many = [0u64; 65];
-    show(rt, b"65 rows:", &many)?;
-    show(rt, b"2:", &[2])?;
-    show(rt, b"1:", &[1])?;
-    show(rt, b"2, 0:", &[2, 0])
+    show(rt, "65 rows:", &many)?;
+    show(rt, "2:", &[2])?;
+    show(rt, "1:", &[1])?;
+    show(rt, "2, 0:", &[2, 0])
 }
 
 // The Mycielskian of the five-cycle: no triangle, and four sittings.
 fn myciel3(rt: &impl Print) -> io::Result<()> {
     let rows = [594, 165, 330, 660, 297, 1042, 1029, 1034, 1044, 1033, 992];
-    show(rt, b"myciel3:", &rows)
+    show(rt, "myciel3:", &rows)
 }
 
 // The Mycielskian of that: no triangle, and five sittings.
@@ -67,7 +62,7 @@ fn myciel4(rt: &impl Print) -> io::Result<()> {
         2032608, 4194898, 4194469, 4194634, 4194964, 4194601, 4195346, 4195333, 4195338, 4195348,
         4195337, 4195296, 4192256,
     ];
-    show(rt, b"myciel4:", &rows)
+    show(rt, "myciel4:", &rows)
 }
 
 // The squares of a board of five by five, which clash where a queen goes from one to the other.
@@ -77,7 +72,7 @@ fn queen5(rt: &impl Print) -> io::Result<()> {
         19554808, 5372005, 10745066, 22506965, 11427722, 21774100, 4132009, 8297810, 15579812,
         30142793, 25682578, 31561009, 30648898, 28791940, 25045288, 16536145,
     ];
-    show(rt, b"queen5_5:", &rows)
+    show(rt, "queen5_5:", &rows)
 }
 
 // And of six by six.
@@ -120,7 +115,7 @@ fn queen6(rt: &impl Print) -> io::Result<()> {
         51410707536,
         34101938337,
     ];
-    show(rt, b"queen6_6:", &rows)
+    show(rt, "queen6_6:", &rows)
 }
 
 // Every two of 64 clash.
@@ -191,7 +186,7 @@ fn complete(rt: &impl Print) -> io::Result<()> {
         13835058055282163711,
         9223372036854775807,
     ];
-    show(rt, b"n = 64, all edges:", &rows)
+    show(rt, "n = 64, all edges:", &rows)
 }
 
 fn main(rt: HostRuntime) -> io::Result<()> {
@@ -202,6 +197,6 @@ fn main(rt: HostRuntime) -> io::Result<()> {
     queen5(&rt)?;
     queen6(&rt)?;
     let none = [0u64; 64];
-    show(&rt, b"n = 64, none:", &none)?;
+    show(&rt, "n = 64, none:", &none)?;
     complete(&rt)
 }

@@ -1,12 +1,10 @@
--- Where the next text of the file lies.
+-- Where a text of the file lies.
 --
---   Within at len r : the text that r names stands after place `at`, within a file of so many bytes, with at most 70 rows lent
+--   Within at len c : the text c stands after place `at`, within a file of so many bytes, with at most 70 rows lent
 --
 -- Assumes nothing.
 use Rattle.std.specs.Prelude.{ℕ, ◌<◌, ◌≤◌}
-use Rattle.trials_lists.specs.declared.Next.{Next}
-use Rattle.trials_lists.specs.declared.Next.TheVariants.{Text, Over}
+use Rattle.trials_lists.specs.declared.Case.{Case}
 
-abbrev pub Within : ℕ → ℕ → Next → Type 0
-Within at len (Text room start end) = (room ≤ 70) × (at < start) × (start ≤ end) × (end ≤ len)
-Within at len Over = Unit {0}
+abbrev pub Within : ℕ → ℕ → Case → Type 0
+Within at len c = (c.room ≤ 70) × (at < c.start) × (c.start ≤ c.end) × (c.end ≤ len)

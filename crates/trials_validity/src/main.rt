@@ -2,22 +2,13 @@
 // for each. What it writes is held to the file stdout, which follows from document 01.
 #![tactic(auto)]
 
-use clashes::Verdict;
 use refusals::Refusal;
 use std::io;
 
-fn say(rt: &impl Print, why: Refusal, row: usize) -> io::Result<()> {
-    trials::put_refused_row(rt, why, row)?;
-    trials::put(rt, b"\n")
-}
-
 fn show(rt: &impl Print, rows: &[u64]) -> io::Result<()> {
     match clashes::validity(rows) {
-        Verdict::Valid => trials::put(rt, b"0 row 0\n"),
-        Verdict::Many => say(rt, Refusal::Many, 0),
-        Verdict::Stray(row) => say(rt, Refusal::Stray, row),
-        Verdict::Itself(row) => say(rt, Refusal::Itself, row),
-        Verdict::OneSided(row) => say(rt, Refusal::OneSided, row),
+        Ok(()) => println!(rt; "0 row 0"),
+        Err(why) => println!(rt; "{} row {}", Refusal::from(why).number(), why.row()),
     }
 }
 

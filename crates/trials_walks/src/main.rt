@@ -2,9 +2,9 @@
 // stdout, which tests/walk_lists.py makes from document 01 alone; the rows below are its too.
 #![tactic(auto)]
 
-use refusals::Refusal;
+use refusals::{Refusal, Unsolved};
 use std::io;
-use walk::Answer;
+use walk::Fewest;
 
 // Cycles.
 const FIVE_CYCLE: [u64; 5] = [18, 5, 10, 20, 9];
@@ -284,84 +284,72 @@ const ALL: [u64; 64] = [
     9223372036854775807,
 ];
 
-fn say(rt: &impl Print, word: &[u8], number: u64) -> io::Result<()> {
-    trials::put(rt, word)?;
-    trials::put_word(rt, number)
-}
-
-fn refused(rt: &impl Print, why: Refusal, row: usize) -> io::Result<()> {
-    trials::put(rt, b": refused ")?;
-    trials::put_refused_row(rt, why, row)
-}
-
-fn tell(rt: &impl Print, a: Answer) -> io::Result<()> {
-    match a {
-        Answer::Accepted(k, nodes, leaves, _clique) => {
-            say(rt, b": k ", k as u64)?;
-            say(rt, b" nodes ", nodes)?;
-            say(rt, b" leaves ", leaves)?;
+fn tell(rt: &impl Print, answer: Result<Fewest, Unsolved>) -> io::Result<()> {
+    match answer {
+        Ok(found) => {
+            println!(rt;
+                ": k {} nodes {} leaves {}",
+                found.k, found.nodes, found.leaves
+            )
         }
-        Answer::Many => refused(rt, Refusal::Many, 0)?,
-        Answer::Stray(row) => refused(rt, Refusal::Stray, row)?,
-        Answer::Itself(row) => refused(rt, Refusal::Itself, row)?,
-        Answer::OneSided(row) => refused(rt, Refusal::OneSided, row)?,
-        Answer::Short => refused(rt, Refusal::Short, 0)?,
-        Answer::Budget(nodes) => {
-            trials::put(rt, b": refused ")?;
-            trials::put_refusal(rt, Refusal::Budget)?;
-            say(rt, b" nodes ", nodes)?;
+        Err(Unsolved::Budget(nodes)) => {
+            println!(rt; ": refused {} nodes {nodes}", Refusal::Budget.number())
+        }
+        Err(Unsolved::Short) => println!(rt; ": refused {} row 0", Refusal::Short.number()),
+        Err(Unsolved::OfRows(why)) => {
+            println!(rt;
+                ": refused {} row {}",
+                Refusal::from(why).number(),
+                why.row()
+            )
         }
     }
-    trials::put(rt, b"\n")
 }
 
 // The bounded walk.
-fn show(rt: &impl Print, name: &[u8], rows: &[u64], budget: u64) -> io::Result<()> {
-    let mut colours = [0u8; 64];
-    trials::put(rt, name)?;
-    tell(rt, walk::fewest(rows, &mut colours, budget))
+fn show(rt: &impl Print, name: &str, rows: &[u64], budget: u64) -> io::Result<()> {
+    print!(rt; "{name}")?;
+    tell(rt, walk::fewest(rows, &mut [0; 64], budget))
 }
 
 // And the plain one.
-fn both(rt: &impl Print, name: &[u8], rows: &[u64]) -> io::Result<()> {
+fn both(rt: &impl Print, name: &str, rows: &[u64]) -> io::Result<()> {
     show(rt, name, rows, 1000000)?;
-    let mut colours = [0u8; 64];
-    trials::put(rt, name)?;
-    trials::put(rt, b", plain")?;
-    tell(rt, walk::plain(rows, &mut colours, 1000000))
+    print!(rt; "{name}, plain")?;
+    tell(rt, walk::plain(rows, &mut [0; 64], 1000000))
 }
 
 fn cycles(rt: &impl Print) -> io::Result<()> {
-    both(rt, b"five-cycle", &FIVE_CYCLE)?;
-    show(rt, b"five-cycle, budget 4", &FIVE_CYCLE, 4)?;
-    show(rt, b"five-cycle, budget 5", &FIVE_CYCLE, 5)?;
-    both(rt, b"seven-cycle", &SEVEN_CYCLE)?;
-    both(rt, b"octahedron", &OCTAHEDRON)?;
-    both(rt, b"cube", &CUBE)
+    both(rt, "five-cycle", &FIVE_CYCLE)?;
+    show(rt, "five-cycle, budget 4", &FIVE_CYCLE, 4)?;
+    show(rt, "five-cycle, budget 5", &FIVE_CYCLE, 5)?;
+    both(rt, "seven-cycle", &SEVEN_CYCLE)?;
+    both(rt, "octahedron", &OCTAHEDRON)?;
+    both(rt, "cube", &CUBE)
 }
 
 fn named(rt: &impl Print) -> io::Result<()> {
-    both(rt, b"myciel3", &MYCIEL3)?;
-    show(rt, b"myciel4", &MYCIEL4, 1000000)?;
-    show(rt, b"queen4_4", &QUEEN4_4, 1000000)?;
-    show(rt, b"queen5_5", &QUEEN5_5, 1000000)?;
-    both(rt, b"petersen", &PETERSEN)?;
-    show(rt, b"kneser 6 2", &KNESER_6_2, 1000000)
+    both(rt, "myciel3", &MYCIEL3)?;
+    show(rt, "myciel4", &MYCIEL4, 1000000)?;
+    show(rt, "queen4_4", &QUEEN4_4, 1000000)?;
+    show(rt, "queen5_5", &QUEEN5_5, 1000000)?;
+    both(rt, "petersen", &PETERSEN)?;
+    show(rt, "kneser 6 2", &KNESER_6_2, 1000000)
 }
 
 fn paley(rt: &impl Print) -> io::Result<()> {
-    show(rt, b"paley 13", &PALEY_13, 1000000)?;
-    show(rt, b"paley 17", &PALEY_17, 1000000)?;
-    show(rt, b"cube of 4", &CUBE_OF_4, 1000000)
+    show(rt, "paley 13", &PALEY_13, 1000000)?;
+    show(rt, "paley 17", &PALEY_17, 1000000)?;
+    show(rt, "cube of 4", &CUBE_OF_4, 1000000)
 }
 
 fn random(rt: &impl Print) -> io::Result<()> {
-    both(rt, b"random 10 50", &RANDOM_10_50)?;
-    show(rt, b"random 20 50", &RANDOM_20_50, 1000000)?;
-    show(rt, b"random 30 20", &RANDOM_30_20, 1000000)?;
-    show(rt, b"random 32 80", &RANDOM_32_80, 1000000)?;
-    show(rt, b"random 64 4", &RANDOM_64_4, 1000000)?;
-    show(rt, b"random 64 97", &RANDOM_64_97, 1000000)
+    both(rt, "random 10 50", &RANDOM_10_50)?;
+    show(rt, "random 20 50", &RANDOM_20_50, 1000000)?;
+    show(rt, "random 30 20", &RANDOM_30_20, 1000000)?;
+    show(rt, "random 32 80", &RANDOM_32_80, 1000000)?;
+    show(rt, "random 64 4", &RANDOM_64_4, 1000000)?;
+    show(rt, "random 64 97", &RANDOM_64_97, 1000000)
 }
 
 fn main(rt: HostRuntime) -> io::Result<()> {
@@ -370,6 +358,6 @@ fn main(rt: HostRuntime) -> io::Result<()> {
     paley(&rt)?;
     random(&rt)?;
     let none = [0u64; 64];
-    show(&rt, b"n = 64, none", &none, 1000000)?;
-    show(&rt, b"n = 64, all edges", &ALL, 1000000)
+    show(&rt, "n = 64, none", &none, 1000000)?;
+    show(&rt, "n = 64, all edges", &ALL, 1000000)
 }

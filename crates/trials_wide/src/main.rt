@@ -4,27 +4,19 @@
 // list all the while. What this writes is held to the file stdout; tests/wide_lists.py makes both files from the lists' constructions and document 01.
 #![tactic(auto)]
 
-ghost use Rattle.std.specs.Prelude.{◌≡◌, ℕ, ◌≤◌, ◌<◌, IfOk, length};
+ghost use Rattle.std.specs.Prelude.{◌≡◌, ℕ, ◌≤◌, ◌<◌, IfOk, IfSome, length};
 ghost use Rattle.clashes.specs.Matrix.{Valid, matrix};
 ghost use Rattle.wide.specs.Words.{rows_of};
 
-use graphs::Choice;
-use lines::Pair;
 use std::io;
 use wide::{Set, below, is_empty, lowest, mark, without};
 
-// The two numbers of a line, and where the next line starts: where this one does, if it has another shape or is not ended.
-#[derive(Drop)]
+// The two numbers of a line, and where the next line starts.
+#[derive(Clone, Copy)]
 struct Line {
     u: usize,
     v: usize,
     next: usize,
-}
-
-fn room_for_lists() -> [u8; 300000]
-    ensures { 300000 ≡ length result }
-{
-    [0; 300000]
 }
 
 fn no_rows() -> [u64; 1024]
@@ -41,13 +33,7 @@ fn add(rows: &mut [u64], n: usize, u: usize, v: usize)
     ensures rows_len_2 { length rows.new ≡ 1024 }
     ensures valid { Valid n (matrix (rows_of 4 256 rows.old)) → Valid n (matrix (rows_of 4 256 rows.new)) }
 {
-    if u == v {
-        return;
-    }
-    if n <= u {
-        return;
-    }
-    if n <= v {
+    if u == v || n <= u || n <= v {
         return;
     }
     mark(4, rows, u, v);
@@ -63,25 +49,8 @@ fn add_other(pairs: &[u64], rows: &mut [u64], n: usize, u: usize, v: usize)
     ensures rows_len_2 { length rows.new ≡ 1024 }
     ensures valid { Valid n (matrix (rows_of 4 256 rows.old)) → Valid n (matrix (rows_of 4 256 rows.new)) }
 {
-    if sets::has(pairs[u * 4 + v / 64], v % 64) {
-        return;
-    }
-    add(rows, n, u, v);
-}
-
-// u clashes with every lower entry that it is not paired with.
-fn add_others_of(pairs: &[u64], rows: &mut [u64], n: usize, u: usize)
-    requires pairs_len { length pairs.now ≡ 1024 }
-    requires rows_len { length rows.old ≡ 1024 }
-    requires n_bound { n ≤ 256 }
-    requires u_lt_n { u < n }
-    ensures rows_len_2 { length rows.new ≡ 1024 }
-    ensures valid { Valid n (matrix (rows_of 4 256 rows.old)) → Valid n (matrix (rows_of 4 256 rows.new)) }
-{
-    let mut v: usize = 0;
-    while v < u {
-        add_other(pairs, rows, n, u, v);
-        v += 1;
+    if !sets::has(pairs[u * 4 + v / 64], v % 64) {
+        add(rows, n, u, v);
     }
 }
 
@@ -93,38 +62,24 @@ fn add_others(pairs: &[u64], rows: &mut [u64], n: usize)
     ensures rows_len_2 { length rows.new ≡ 1024 }
     ensures valid { Valid n (matrix (rows_of 4 256 rows.old)) → Valid n (matrix (rows_of 4 256 rows.new)) }
 {
-    let mut u: usize = 0;
-    while u < n {
-        add_others_of(pairs, rows, n, u);
-        u += 1;
+    for u in 0..n {
+        for v in 0..u {
+            add_other(pairs, rows, n, u, v);
+        }
     }
 }
 
-// The line that starts at `at`.
-fn line_at(file: &[u8], at: usize) -> Line
+// The line that starts at `at`, if it is two numbers and is ended.
+fn line_at(file: &[u8], at: usize) -> Option<Line>
     requires { at ≤ length file.now }
-    ensures { (at ≤ result.next) × (result.next ≤ length file.now) }
+    ensures { IfSome result (λ line. (at < line.next) × (line.next ≤ length file.now)) }
 {
     let e = lines::line_end(file, at);
     if file.len() <= e {
-        return Line {
-            u: 0,
-            v: 0,
-            next: at,
-        };
+        return None;
     }
-    match lines::two(&file[at..e]) {
-        Pair::Neither => Line {
-            u: 0,
-            v: 0,
-            next: at,
-        },
-        Pair::Both(u, v) => Line {
-            u: u,
-            v: v,
-            next: e + 1,
-        },
-    }
+    let (u, v) = lines::two(&file[at..e])?;
+    Some(Line { u, v, next: e + 1 })
 }
 
 // The pairs from `at` on, up to one of an entry twice, come to the rows. Where the line after them starts.
@@ -137,14 +92,10 @@ fn add_pairs(file: &[u8], at: usize, rows: &mut [u64], n: usize) -> usize
     ensures valid { Valid n (matrix (rows_of 4 256 rows.old)) → Valid n (matrix (rows_of 4 256 rows.new)) }
 {
     let mut at = at;
-    while at < file.len() {
-        let line = line_at(file, at);
-        if line.next <= at {
-            return at;
-        }
+    while let Some(line) = line_at(file, at) {
         at = line.next;
         if line.u == line.v {
-            return at;
+            break;
         }
         add(rows, n, line.u, line.v);
     }
@@ -155,24 +106,10 @@ fn put_members(rt: &impl Print, s: Set) -> io::Result<()> {
     let mut left = s;
     while !is_empty(left) {
         let v = lowest(left);
-        trials::put(rt, b" ")?;
-        trials::put_number(rt, v)?;
+        print!(rt; " {v}")?;
         left = without(left, v);
     }
     Ok(())
-}
-
-fn put_choice(rt: &impl Print, c: Choice) -> io::Result<()> {
-    match c {
-        Choice::Complete => trials::put(rt, b", complete\n"),
-        Choice::Split(u, v) => {
-            trials::put(rt, b", pair ")?;
-            trials::put_number(rt, u)?;
-            trials::put(rt, b" ")?;
-            trials::put_number(rt, v)?;
-            trials::put(rt, b"\n")
-        }
-    }
 }
 
 // What is found in a list of n entries.
@@ -182,19 +119,20 @@ fn tell(rt: &impl Print, rows: &[u64], n: usize) -> io::Result<()>
     requires valid { Valid n (matrix (rows_of 4 256 rows.now)) }
 {
     let live = below(n);
-    trials::put_number(rt, n)?;
-    trials::put(rt, b" entries, clique")?;
-    put_members(rt, wide_cliques::clique_among(live, rows, 257))?;
-    let b = wide_mycielski::bound_among(live, rows, 257);
-    trials::put(rt, b", bound ")?;
-    trials::put_number(rt, b)?;
+    print!(rt; "{n} entries, clique")?;
+    put_members(rt, cliques::clique_among(live, rows, 257))?;
+    let b = mycielski::bound_among::<Set, 1024>(live, rows, 257);
+    print!(rt; ", bound {b}")?;
     if bounds::reaches_wide(live, rows, b) {
-        trials::put(rt, b" reached")?;
+        print!(rt; " reached")?;
     }
     if bounds::reaches_wide(live, rows, b % 512 + 1) {
-        trials::put(rt, b" and passed")?;
+        print!(rt; " and passed")?;
     }
-    put_choice(rt, wide_pairs::choose_among(live, rows))
+    match wide_pairs::choose_among(live, rows) {
+        None => println!(rt; ", complete"),
+        Some((u, v)) => println!(rt; ", pair {u} {v}"),
+    }
 }
 
 // The list whose pairs start at `at`. Where the next list starts.
@@ -217,22 +155,20 @@ fn one_list(rt: &impl Print, file: &[u8], at: usize, n: usize, others: bool) -> 
 
 // Each list of the file.
 fn lists(rt: &impl Print, file: &[u8]) -> io::Result<()> {
-    let mut at: usize = 0;
+    let mut at = 0;
     while at < file.len() {
-        let line = line_at(file, at);
-        if line.next <= at {
-            return trials::put(rt, b"over\n");
+        match line_at(file, at) {
+            Some(line) if line.u <= 256 => {
+                at = one_list(rt, file, line.next, line.u, line.v == 1)?;
+            }
+            _ => return println!(rt; "over"),
         }
-        if 256 < line.u {
-            return trials::put(rt, b"over\n");
-        }
-        at = one_list(rt, file, line.next, line.u, line.v == 1)?;
     }
     Ok(())
 }
 
 fn main(rt: HostRuntime) -> io::Result<()> {
-    let mut file = room_for_lists();
+    let mut file = [0; 300000];
     let len = trials::read_full(&rt, &mut file);
     lists(&rt, &file[..len])
 }

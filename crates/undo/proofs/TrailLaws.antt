@@ -1,11 +1,11 @@
 -- Separated pairs on a trail, and the rows without them. Assumes nothing.
 use mathlib.Core.Path.{◌≡◌, refl, sym, ap, ap₂, ◌∙◌}
 use mathlib.Core.Bool.{Bool, true, false, not, ◌&&◌, ◌||◌}
-use mathlib.Core.List.{List}
+use mathlib.Core.List.{List, [], ◌∷◌, ◌++◌}
 use Prim.Native.Nat.{ℕ, zero, suc, ◌+◌, ◌*◌, ◌/◌, ◌%◌, ◌≤◌, ◌<◌}
 use native.Mathlib.Nat.{mod-eq_of_lt}
 use native.Mathlib.Omega.{arith}
-use lib.ListN.{get_or}
+use lib.ListN.{length, get_or, take}
 use Rattle.sets.specs.Set.{has}
 use Rattle.sets.proofs.TestLaws.{and_true}
 use Rattle.undo.specs.Back.{hit, Cut, is_met, Restored}
@@ -49,3 +49,14 @@ restored_next cap old trail at k u v rows new r few p c s e a b =
     (record { long = p.long; is = λ x y. p.is x y ∙ ap (λ (t : Bool). has (get_or rows x zero) y && not t) (sym (met_same cap trail old at k x y s)) }) c
     (ap (λ (m : ℕ). m % cap) (let z : get_or trail (at + k) zero / 256 ≡ u = omega (arith, e) in z) ∙ mod-eq_of_lt a)
     (ap (λ (m : ℕ). m % cap) (let z : get_or trail (at + k) zero % 256 ≡ v = omega (arith, e) in z) ∙ mod-eq_of_lt b)
+
+-- the last of a list that another begins with, and the list without it
+pub taken_back : (s xs : List ℕ) (x : ℕ) → xs ++ x ∷ [] ≡ take (length (xs ++ x ∷ [])) s → (xs ≡ take (length xs) s) × (x ≡ get_or s (length xs) zero)
+taken_back [] [] x e = absurd (let z : ⊥ = cc in z)
+taken_back [] (z ∷ xs) x e = absurd (let z : ⊥ = cc in z)
+taken_back (y ∷ s) [] x e = (refl, cc)
+taken_back (y ∷ s) (z ∷ xs) x e =
+    let h : xs ++ x ∷ [] ≡ take (length (xs ++ x ∷ [])) s = cc in
+    let t = taken_back s xs x h in
+    let a : z ≡ y = cc in
+    (ap₂ (λ (b : ℕ) (l : List ℕ). b ∷ l) a t.0, t.1)

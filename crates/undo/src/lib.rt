@@ -94,10 +94,7 @@ pub fn merge(words: usize, live: Set, rows: &mut [u64], u: usize, v: usize) -> U
     let near = less(meet(other, live), old);
     link(words, rows, u, near);
     put_row(words, rows, u, join(old, other));
-    Undo {
-        old: old,
-        near: near,
-    }
+    Undo { old, near }
 }
 
 // The rows as they were before v was merged into u.
@@ -109,8 +106,7 @@ pub fn unmerge(words: usize, rows: &mut [u64], u: usize, undo: Undo)
     ensures form_2 { Form words rows.new }
     ensures undone { Undone (held words rows.old) u (num undo.old) (num undo.near) (held words rows.new) }
 {
-    let near = undo.near;
-    let old = undo.old;
+    let Undo { old, near } = undo;
     unlink(words, rows, u, near);
     put_row(words, rows, u, old);
 }
@@ -137,13 +133,6 @@ fn unseparate(words: usize, rows: &mut [u64], u: usize, v: usize)
     unmark(words, rows, v, u);
 }
 
-// The same number.
-fn number(e: u16) -> usize
-    ensures { result ≡ e }
-{
-    e as usize
-}
-
 // The number that a part of a trail's entry is: at one word below 64, at four below 256.
 fn below_cap(words: usize, x: usize) -> usize
     requires { (words ≡ 1) ⊎ (words ≡ 4) }
@@ -162,10 +151,8 @@ pub fn restore(words: usize, rows: &mut [u64], trail: &[u16], at: usize, more: u
     ensures form_2 { Form words rows.new }
     ensures restored { Restored (64 * words) trail.now at more (held words rows.old) (held words rows.new) }
 {
-    let mut left = more;
-    while 0 < left {
-        left -= 1;
-        let e = number(trail[at + left]);
+    for &pair in trail[at..at + more].iter().rev() {
+        let e = usize::from(pair);
         unseparate(
             words,
             rows,
@@ -183,15 +170,13 @@ pub fn colours(n: usize, names: &[u8], out: &mut [u8])
     ensures { Coloured n names.now out.old out.new }
 {
     let mut next: usize = 0;
-    let mut i: usize = 0;
-    while i < n {
-        let w = names[i] as usize;
+    for (i, &name) in names[..n].iter().enumerate() {
+        let w = usize::from(name);
         if w == i {
             out[i] = next as u8;
             next += 1;
         } else {
             out[i] = out[w];
         }
-        i += 1;
     }
 }

@@ -3,10 +3,154 @@
 // they are.
 #![tactic(auto)]
 
-ghost use Rattle.std.specs.Prelude.{◌≡◌, ℕ, ◌<◌, ◌≤◌, ◌+◌, ◌*◌, eqb, ltb, length, get_or, set, true, false};
+ghost use Rattle.std.specs.Prelude.{◌≡◌, List, ℕ, ◌<◌, ◌≤◌, ◌+◌, ◌*◌, eqb, ltb, length, get_or, set, replicate, true, false, refl};
 ghost use Rattle.sets.specs.Set.{has as member, size as size_of, IsWith, IsWithout, IsJoin, IsMeet, IsLess, IsBelow, IsLowest, IsRest};
 ghost use Rattle.wide.specs.Words.{num, rows_of};
 ghost use Rattle.wide.specs.Form.{Form, held, Fits, Marked, Unmarked};
+ghost use Rattle.wide.specs.Lent.{four_long, four_zero};
+
+// Sets of one width, with rows of them that are lent as numbers: what the kernels of a walk are written over. `cap` numbers may be members, `as_num`
+// is the number that a set is, `lent` numbers hold `cap` rows, and `as_rows` are those rows.
+pub trait Bits: Copy {
+    ghost cap: { ℕ };
+
+    ghost as_num: { Self → ℕ };
+
+    ghost lent: { ℕ };
+
+    ghost as_rows: { List ℕ → List ℕ };
+
+    // No member.
+    fn none() -> Self
+        ensures { as_num result ≡ 0 };
+
+    // Has it no member?
+    fn is_empty(self) -> bool
+        ensures { (result ≡ true → as_num self ≡ 0) × (result ≡ false → as_num self ≡ 0 → ⊥) };
+
+    // What it or t has.
+    fn join(self, t: Self) -> Self
+        ensures { IsJoin (as_num self) (as_num t) (as_num result) };
+
+    // What it and t have.
+    fn meet(self, t: Self) -> Self
+        ensures { IsMeet (as_num self) (as_num t) (as_num result) };
+
+    // What it has and t does not.
+    fn less(self, t: Self) -> Self
+        ensures { IsLess (as_num self) (as_num t) (as_num result) };
+
+    // It with i.
+    fn with(self, i: usize) -> Self
+        requires { i < cap }
+        ensures { IsWith (as_num self) i (as_num result) };
+
+    // It without i.
+    fn without(self, i: usize) -> Self
+        requires { i < cap }
+        ensures { IsWithout (as_num self) i (as_num result) };
+
+    // How many members it has.
+    fn size(self) -> usize
+        ensures { result ≡ size_of cap (as_num self) };
+
+    // The lowest member, where there is one.
+    fn lowest(self) -> usize
+        requires { as_num self ≡ 0 → ⊥ }
+        ensures { IsLowest cap (as_num self) result };
+
+    // It without its lowest member, where there is one.
+    fn rest(self) -> Self
+        requires { as_num self ≡ 0 → ⊥ }
+        ensures { IsRest cap (as_num self) (as_num result) };
+
+    // The numbers below n.
+    fn below(n: usize) -> Self
+        requires { n ≤ cap }
+        ensures { IsBelow n (as_num result) };
+
+    // Row i of lent rows.
+    fn row(rows: &[u64], i: usize) -> Self
+        requires { (length rows.now ≡ lent) × (i < cap) }
+        ensures { as_num result ≡ get_or (as_rows rows.now) i 0 };
+
+    // Row i of lent rows becomes it.
+    fn put(self, rows: &mut [u64], i: usize)
+        requires { (length rows.old ≡ lent) × (i < cap) }
+        ensures { (length rows.new ≡ lent) × (as_rows rows.new ≡ set (as_rows rows.old) i (as_num self)) };
+
+    // There are `cap` rows, and numbers that are 0 are rows that are 0.
+    ghost rows_long: { (l : List ℕ) → length l ≡ lent → length (as_rows l) ≡ cap };
+
+    ghost rows_zero: { as_rows (replicate lent 0) ≡ replicate cap 0 };
+}
+
+// One word, and rows of one.
+impl Bits for u64 {
+    ghost cap = { 64 };
+
+    ghost as_num = { λ s. s };
+
+    ghost lent = { 64 };
+
+    ghost as_rows = { λ l. l };
+
+    ghost rows_long = { λ l e. e };
+
+    ghost rows_zero = { refl };
+
+    fn none() -> u64 {
+        0
+    }
+
+    fn is_empty(self) -> bool {
+        self == 0
+    }
+
+    fn join(self, t: u64) -> u64 {
+        sets::join(self, t)
+    }
+
+    fn meet(self, t: u64) -> u64 {
+        sets::meet(self, t)
+    }
+
+    fn less(self, t: u64) -> u64 {
+        sets::less(self, t)
+    }
+
+    fn with(self, i: usize) -> u64 {
+        sets::with(self, i)
+    }
+
+    fn without(self, i: usize) -> u64 {
+        sets::without(self, i)
+    }
+
+    fn size(self) -> usize {
+        sets::size(self)
+    }
+
+    fn lowest(self) -> usize {
+        sets::lowest(self)
+    }
+
+    fn rest(self) -> u64 {
+        sets::rest(self)
+    }
+
+    fn below(n: usize) -> u64 {
+        sets::below(n)
+    }
+
+    fn row(rows: &[u64], i: usize) -> u64 {
+        rows[i]
+    }
+
+    fn put(self, rows: &mut [u64], i: usize) {
+        rows[i] = self;
+    }
+}
 
 // The words, lowest first.
 #[derive(Clone, Copy)]
@@ -202,6 +346,80 @@ pub fn put(rows: &mut [u64], i: usize, s: Set)
     rows[k + 1] = s.b;
     rows[k + 2] = s.c;
     rows[k + 3] = s.d;
+}
+
+// s without its lowest member, where it has one.
+pub fn rest(s: Set) -> Set
+    requires { num s ≡ 0 → ⊥ }
+    ensures { IsRest 256 (num s) (num result) }
+{
+    without(s, lowest(s))
+}
+
+impl Bits for Set {
+    ghost cap = { 256 };
+
+    ghost as_num = { num };
+
+    ghost lent = { 1024 };
+
+    ghost as_rows = { rows_of 4 256 };
+
+    ghost rows_long = { four_long };
+
+    ghost rows_zero = { four_zero };
+
+    fn none() -> Set {
+        none()
+    }
+
+    fn is_empty(self) -> bool {
+        is_empty(self)
+    }
+
+    fn join(self, t: Set) -> Set {
+        join(self, t)
+    }
+
+    fn meet(self, t: Set) -> Set {
+        meet(self, t)
+    }
+
+    fn less(self, t: Set) -> Set {
+        less(self, t)
+    }
+
+    fn with(self, i: usize) -> Set {
+        with(self, i)
+    }
+
+    fn without(self, i: usize) -> Set {
+        without(self, i)
+    }
+
+    fn size(self) -> usize {
+        size(self)
+    }
+
+    fn lowest(self) -> usize {
+        lowest(self)
+    }
+
+    fn rest(self) -> Set {
+        rest(self)
+    }
+
+    fn below(n: usize) -> Set {
+        below(n)
+    }
+
+    fn row(rows: &[u64], i: usize) -> Set {
+        row(rows, i)
+    }
+
+    fn put(self, rows: &mut [u64], i: usize) {
+        put(rows, i, self);
+    }
 }
 
 // One word as a set.

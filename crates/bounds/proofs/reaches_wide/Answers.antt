@@ -12,10 +12,6 @@ returns-then-size-best c =
     let sized = c.size in
     λ m k. few_reach (holding (num a.live) (rows_of 4 256 a.rows.now) m) k a.best (omega (arith, if1.true, sized.ensures))
 
-pub bound_among-requires : goal.bound_among-requires
-bound_among-requires c =
-    let pre = c.requires in record { rows_len = pre.rows_len; holds_at = pre.holds_at }
-
 pub returns : goal.returns
 returns c =
     let a = c.args in

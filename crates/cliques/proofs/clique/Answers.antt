@@ -4,9 +4,6 @@ use native.Mathlib.Omega.{arith}
 use Rattle.graphs.proofs.LoopLaws.{size_le}
 use Rattle.cliques.proofs.clique.Goals as goal
 
-pub clique_among-requires : goal.clique_among-requires
-clique_among-requires c = (c.args.h, c.requires)
-
 pub returns : goal.returns
 returns c =
     elim (c.clique_among.ensures c.args.h c.requires) [

@@ -3,11 +3,8 @@ use native.Mathlib.Omega.{arith}
 use Rattle.sets.specs.Lists.{bit}
 use Rattle.sets.proofs.SetLaws.{has_none}
 use mathlib.Core.Path.{ap}
-use Rattle.counts.proofs.LeastLaws.{least_none, least_is}
+use Rattle.counts.proofs.LeastLaws.{least_is}
 use Rattle.counts.proofs.at_least.Goals as goal
-
-pub returns-then-need-gt127 : goal.returns-then-need-gt127
-returns-then-need-gt127 c = least_none c.args.c c.args.need c.args.among c.if-need-gt127.true
 
 pub returns : goal.returns
 returns c =

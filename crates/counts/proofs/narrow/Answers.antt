@@ -1,12 +1,6 @@
 -- `counts::narrow` meets its contract. Assumes nothing.
-use Rattle.counts.proofs.MostLaws.{ahead_kept, ahead_slice}
+use Rattle.counts.proofs.MostLaws.{ahead_slice}
 use Rattle.counts.proofs.narrow.Goals as goal
-
-pub returns-then-having-eq0 : goal.returns-then-having-eq0
-returns-then-having-eq0 c =
-    let a = c.args in
-    let h = c.meet-having in
-    λ f apart weight l. ahead_kept f apart a.slice weight h.result a.leading l h.ensures c.if-having-eq0.true
 
 pub returns : goal.returns
 returns c =

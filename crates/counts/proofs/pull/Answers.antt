@@ -1,9 +1,6 @@
 -- `counts::pull` meets its contract: the row of the lowest member, and the others. Assumes nothing.
-use Rattle.counts.proofs.CountLaws.{pull_none, pull_some}
+use Rattle.counts.proofs.CountLaws.{pull_some}
 use Rattle.counts.proofs.pull.Goals as goal
-
-pub returns-then-left-eq0 : goal.returns-then-left-eq0
-returns-then-left-eq0 c = pull_none c.args.rows.now c.args.left c.if-left-eq0.true
 
 pub returns : goal.returns
 returns c =

@@ -7,7 +7,7 @@ use native.Mathlib.Omega.{arith}
 use Rattle.lists.proofs.list_extent.Goals as goal
 
 pub loop-i-init : goal.loop-i-init
-loop-i-init c = let s = c.args.rows.now in (omega arith, omega arith, omega arith, subst (Counted (all s) 0 0) (edges_are s) (count_all (all s)))
+loop-i-init c = let s = c.args.rows.now in (omega arith, omega arith, subst (Counted (all s) 0 0) (edges_are s) (count_all (all s)))
 
 pub loop-i-preserved : goal.loop-i-preserved
 loop-i-preserved c =
@@ -15,8 +15,7 @@ loop-i-preserved c =
     let b = c.loop-i in (
       omega arith,
       omega arith,
-      omega arith,
-      count_row _ b.edges b.bytes (length s) s b.i c.loop-i-test.true b.invariant.3 _ _
+      count_row _ b.edges b.bytes (length s) s b.i c.loop-i-test.true b.invariant.2 _ _
           c.row_extent-e.ensures.0.0 c.row_extent-e.ensures.0.1,
     )
 
@@ -24,4 +23,4 @@ pub returns : goal.returns
 returns c =
     let s = c.args.rows.now in
     let b = c.loop-i in
-    (count_none _ b.edges b.bytes _ (rows_end (length s) s b.i c.loop-i-test.false) b.invariant.3, (omega arith, omega arith))
+    (count_none _ b.edges b.bytes _ (rows_end (length s) s b.i c.loop-i-test.false) b.invariant.2, (omega arith, omega arith))

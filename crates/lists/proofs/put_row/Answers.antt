@@ -2,7 +2,7 @@
 use Prim.Native.Nat.{◌+◌, ◌-◌}
 use mathlib.Core.Path.{sym, ap, ◌∙◌}
 use Rattle.lines.specs.Numeral.{two_line}
-use Rattle.lines.proofs.Writing.{Left, left_begin, left_room, left_put, left_skip, left_none, two_length}
+use Rattle.lines.proofs.Writing.{Left, left_room, left_put, left_skip, left_none, two_length}
 use Rattle.lists.specs.Shape.{e_word}
 use Rattle.lists.specs.Edges.{row_edges}
 use Rattle.lists.specs.Write.{edges_text}
@@ -21,33 +21,27 @@ stepped c =
     elim c.if-has.branch [
       | then-has w ↦
           rw (w.out-is, w.a-is)
-          (left_put _ _ _ b.out b.a _ b.invariant.2 (two_line e_word (a.i + 1) (b.j + 1)) _
+          (left_put _ _ _ b.out b.a _ b.invariant.1 (two_line e_word (a.i + 1) (b.j + 1)) _
           (edge_line a.row a.i b.j a.n c.loop-j-test.true (sym c.has.ensures ∙ w.if-has.true)) _ _ w.put_two-a.ensures)
       | else-has w ↦
           rw (w.out-is, w.a-is)
-          (left_skip _ _ _ b.out b.a _ b.invariant.2 _ (no_line a.row a.i b.j a.n c.loop-j-test.true (sym c.has.ensures ∙ w.if-has.false)))
+          (left_skip _ _ _ b.out b.a _ b.invariant.1 _ (no_line a.row a.i b.j a.n c.loop-j-test.true (sym c.has.ensures ∙ w.if-has.false)))
     ]
-
-pub loop-j-init : goal.loop-j-init
-loop-j-init c = (omega arith, omega arith, left_begin c.args.out.now c.args.at _ c.requires.1)
 
 pub put_two-a-requires : goal.put_two-a-requires
 put_two-a-requires c =
     let a = c.args in
     let b = c.loop-j in
-    let r = left_room _ _ _ b.out b.a _ b.invariant.2 (two_line e_word (a.i + 1) (b.j + 1)) _
+    let r = left_room _ _ _ b.out b.a _ b.invariant.1 (two_line e_word (a.i + 1) (b.j + 1)) _
     (edge_line a.row a.i b.j a.n c.loop-j-test.true
     (sym c.has.ensures ∙ c.if-has.true)) in
     ((omega arith, omega arith), omega (arith, two_length e_word (a.i + 1) (b.j + 1), two_length e_word (b.j + 1) (a.i + 1)))
 
 pub loop-j-preserved : goal.loop-j-preserved
-loop-j-preserved c = let t = stepped c in (omega arith, omega arith, t)
-
-pub shape_of-out : goal.shape_of-out
-shape_of-out c = c.loop-j.invariant.2.same
+loop-j-preserved c = (omega arith, stepped c)
 
 pub returns : goal.returns
 returns c =
     let a = c.args in
     let b = c.loop-j in
-    left_none _ _ _ b.out b.a _ b.invariant.2 (ap edges_text (row_end a.row a.i b.j a.n c.loop-j-test.false))
+    left_none _ _ _ b.out b.a _ b.invariant.1 (ap edges_text (row_end a.row a.i b.j a.n c.loop-j-test.false))

@@ -1,4 +1,3 @@
-use Prim.Native.Nat.{◌-◌, ◌≤◌}
 use lib.ListN.{length, drop}
 use Rattle.lines.proofs.Writing.{Left}
 use Rattle.lists.specs.Edges.{edges, edges_from}
@@ -6,7 +5,4 @@ use Rattle.lists.specs.Write.{edges_text}
 use Rattle.lists.proofs.put_rows.Given as goal
 
 abbrev pub invariant-loop-i : goal.invariant-loop-i
-invariant-loop-i l = (l.i ≤ length l.rows) × Left l.initial.out l.at (edges_text (edges l.rows)) l.out l.a (edges_text (edges_from (length l.rows) (drop l.i l.rows) l.i))
-
-abbrev pub decreases-loop-i : goal.decreases-loop-i
-decreases-loop-i l = length l.rows - l.i
+invariant-loop-i l = Left l.initial.out l.at (edges_text (edges l.rows)) l.out l.a (edges_text (edges_from (length l.rows) (drop l.i l.rows) l.i))

@@ -1,34 +1,26 @@
--- `lists::read_list` meets its contract: so many rows are copied as the answer accepts. Assumes nothing.
-use Prim.Native.Nat.{ℕ}
-use mathlib.Core.Path.{◌≡◌, sym, ap, ◌∙◌}
-use lib.ListN.{length}
-use Rattle.lists.specs.Read.{most_entries, longest_text}
-use Rattle.lists.proofs.Answers.{stored, stored_fits, stored_promise}
-use borrow.Author.Rules.{rules}
+-- `lists::read_list` copies as many rows as were gathered, which both sides have. Assumes nothing.
+use mathlib.Core.Path.{◌≡◌, sym, ◌∙◌}
 use native.Mathlib.Omega.{arith}
+use lib.ListN.{length, take}
+use lib.Seq.{length-take-le}
+use Rattle.std.proofs.Common.{rules}
+use Rattle.lists.proofs.Fold.{gathered_fits}
 use Rattle.lists.proofs.read_list.Goals as goal
-use Rattle.lists.proofs.read_list.Goals.{Joined-answer, in-Read, in_default}
+use Rattle.lists.proofs.read_list.Goals.{In_ok-n}
 
--- where the arms meet: none where refused, n where accepted
-counted : (c : Joined-answer) → (◌≡◌ {A = ℕ} c.match-answer.stored (stored c.gather-found.result.answer)) × (c.match-answer.answer ≡ c.gather-found.result.answer)
-counted c =
-    elim c.match-answer.branch [
-      | in-Read w ↦ (w.stored-is ∙ sym (ap stored w.in-Read.is), w.answer-is ∙ sym w.in-Read.is)
-      | in_default w ↦ (w.stored-is ∙ sym (ap stored w.in_default.is), w.answer-is)
-    ]
+ours : (c : In_ok-n) → length (take c.in_ok-n.field-0.n c.args.rows.now) ≡ c.in_ok-n.field-0.n
+ours c = length-take-le _ _ (gathered_fits c.args.plain c.args.text.now _ c.in_ok-n.field-0 (sym c.gather.ensures ∙ c.in_ok-n.was)).1
 
-pub copy_rows-requires : goal.copy_rows-requires
-copy_rows-requires c =
-    let a = c.args in
-    let b = stored_fits a.plain most_entries longest_text a.text.now a.rows.now _ c.gather-found.ensures _
-    (counted (goal.at.copy_rows-requires c).Joined-answer).0 in
-    let z : length c.gather-found.result.rows ≡ 64 = search rules in
-    (omega arith, b.1)
+theirs : (c : In_ok-n) → length (take c.in_ok-n.field-0.n c.in_ok-n.field-0.rows) ≡ c.in_ok-n.field-0.n
+theirs c =
+    let z : length c.in_ok-n.field-0.rows ≡ 64 = search rules in
+    length-take-le _ _ (omega (arith, (gathered_fits c.args.plain c.args.text.now _ c.in_ok-n.field-0 (sym c.gather.ensures ∙ c.in_ok-n.was)).0))
 
-pub returns : goal.returns
-returns c =
-    let a = c.args in
-    stored_promise a.plain most_entries longest_text a.text.now a.rows.now _
-    c.gather-found.ensures _
-    (counted (goal.at.returns c).Joined-answer).0 _ _ (counted (goal.at.returns c).Joined-answer).1
-    c.copy_rows.ensures
+pub slice_bounds-copy_from_slice-end-2 : goal.slice_bounds-copy_from_slice-end-2
+slice_bounds-copy_from_slice-end-2 c = sym (ours (goal.at.slice_bounds-copy_from_slice-end-2 c).In_ok-n)
+
+pub slice_bounds-copy_from_slice-end-3 : goal.slice_bounds-copy_from_slice-end-3
+slice_bounds-copy_from_slice-end-3 c = sym (theirs (goal.at.slice_bounds-copy_from_slice-end-3 c).In_ok-n)
+
+pub copy_from_slice-requires : goal.copy_from_slice-requires
+copy_from_slice-requires c = ours (goal.at.copy_from_slice-requires c).In_ok-n ∙ sym (theirs (goal.at.copy_from_slice-requires c).In_ok-n)

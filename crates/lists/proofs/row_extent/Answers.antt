@@ -2,7 +2,7 @@
 use Prim.Native.Nat.{◌+◌, ◌-◌, ◌*◌, ◌≤◌}
 use mathlib.Core.Path.{sym, ◌∙◌}
 use Rattle.lists.specs.Edges.{row_edges}
-use Rattle.lists.proofs.EdgeLaws.{Counted, count_yes, count_no, count_none, count_all, row_end}
+use Rattle.lists.proofs.EdgeLaws.{Counted, count_yes, count_no, count_none, row_end}
 use native.Mathlib.Omega.{arith}
 use Rattle.lists.proofs.row_extent.Goals as goal
 use Rattle.lists.proofs.row_extent.Goals.{Joined-has, then-has, else-has}
@@ -19,26 +19,23 @@ counted c =
       | then-has w ↦ (
         omega arith,
         omega arith,
-        count_yes _ b.edges b.bytes a.row a.i b.j a.n c.loop-j-test.true b.invariant.4
+        count_yes _ b.edges b.bytes a.row a.i b.j a.n c.loop-j-test.true b.invariant.3
             (sym c.has.ensures ∙ w.if-has.true) c.if-has.edges c.if-has.bytes (omega arith) (omega arith),
       )
       | else-has w ↦ (
         omega arith,
         omega arith,
-        count_no _ b.edges b.bytes a.row a.i b.j a.n c.loop-j-test.true b.invariant.4
+        count_no _ b.edges b.bytes a.row a.i b.j a.n c.loop-j-test.true b.invariant.3
             (sym c.has.ensures ∙ w.if-has.false) c.if-has.edges c.if-has.bytes (omega arith) (omega arith),
       )
     ]
 
-pub loop-j-init : goal.loop-j-init
-loop-j-init c = (omega arith, omega arith, omega arith, omega arith, count_all _)
-
 pub loop-j-preserved : goal.loop-j-preserved
-loop-j-preserved c = let t = counted c in (omega arith, omega arith, t.0, t.1, t.2)
+loop-j-preserved c = let t = counted c in (omega arith, t.0, t.1, t.2)
 
 pub returns : goal.returns
 returns c =
     let a = c.args in
     let b = c.loop-j in
-    let z = count_none _ b.edges b.bytes _ (row_end a.row a.i b.j a.n c.loop-j-test.false) b.invariant.4 in
+    let z = count_none _ b.edges b.bytes _ (row_end a.row a.i b.j a.n c.loop-j-test.false) b.invariant.3 in
     (z, (omega arith, omega arith))

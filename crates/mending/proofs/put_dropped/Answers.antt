@@ -1,7 +1,7 @@
 -- `mending::put_dropped` meets its contract: the lines that are left of the sheet, put from here, are all of them put at the start (`Left`).
 -- Assumes nothing.
 use Prim.Native.Nat.{ℕ, ◌+◌}
-use mathlib.Core.Path.{sym, ap, subst, ◌∙◌}
+use mathlib.Core.Path.{refl, sym, ap, subst, ◌∙◌}
 use mathlib.Core.Bool.{Bool}
 use native.Mathlib.Omega.{arith}
 use lib.ListN.{drop}
@@ -12,28 +12,28 @@ use Rattle.sheets.proofs.Sets.{empty_is}
 use Rattle.mends.specs.Typed.{start}
 use Rattle.mends.specs.Report.{dropped_text}
 use Rattle.mending.specs.Held.{dropped_at, dropped_of}
-use Rattle.mending.proofs.Turns.{ends_drops, halts_drops, turn_drops}
+use Rattle.mending.proofs.Turns.{step_ok, fault_drops, ends_drops, halts_drops, turn_drops}
 use Rattle.mending.proofs.Reports.{drops_groups, drops_size, drops_room, drops_member}
 use Rattle.mending.proofs.put_dropped.Goals as goal
-use Rattle.mending.proofs.put_dropped.Goals.{Joined-line_step, in-Groups, in-Size, in-Member}
+use Rattle.mending.proofs.put_dropped.Goals.{Joined-step, in-Groups, in-Size, in-Member}
 
-turned : (c : Joined-line_step) →
+turned : (c : Joined-step) →
     let a = c.args in
     let e = c.line_end-e.result in
-    Left a.out.now 0 (dropped_text (dropped_of a.n a.sheet.now)) c.match-line_step.out c.match-line_step.a
-    (dropped_text (dropped_at a.n (lines_of (drop (e + 1) a.sheet.now)) (c.loop-at.line + 1) c.match-line_step.c (has c.match-line_step.seen)))
+    Left a.out.now 0 (dropped_text (dropped_of a.n a.sheet.now)) c.match-step.out c.match-step.a
+    (dropped_text (dropped_at a.n (lines_of (drop (e + 1) a.sheet.now)) (c.loop-at.line + 1) c.match-step.c (has c.match-step.seen)))
 turned c =
     let a = c.args in
     let e = c.line_end-e in
     let l = c.if-sheet-e.false in
-    let st = sym c.line_step.ensures in
-    elim c.match-line_step.branch [
+    let st = sym c.in-Ok.ensures in
+    elim c.match-step.branch [
       | in-Groups w ↦ drops_groups a.n a.sheet.now c.loop-at.at e.result c.loop-at.line c.loop-at.c c.loop-at.seen e.ensures.0 l
-          a.out.now _ c.loop-at.out c.loop-at.a c.loop-at.invariant.2 w.in-Groups.d (st ∙ w.in-Groups.is) _ _ _ _ w.out-is w.a-is w.c-is w.seen-is
+          a.out.now _ c.loop-at.out c.loop-at.a c.loop-at.invariant.2 w.in-Groups.d (st ∙ ap step_ok w.in-Groups.is) _ _ _ _ w.out-is w.a-is w.c-is w.seen-is
       | in-Size w ↦ drops_size a.n a.sheet.now c.loop-at.at e.result c.loop-at.line c.loop-at.c c.loop-at.seen e.ensures.0 l
-          a.out.now _ c.loop-at.out c.loop-at.a c.loop-at.invariant.2 w.in-Size.d (st ∙ w.in-Size.is) _ _ _ _ w.out-is w.a-is w.c-is w.seen-is
+          a.out.now _ c.loop-at.out c.loop-at.a c.loop-at.invariant.2 w.in-Size.d (st ∙ ap step_ok w.in-Size.is) _ _ _ _ w.out-is w.a-is w.c-is w.seen-is
       | in-Member w ↦ drops_member a.n a.sheet.now c.loop-at.at e.result c.loop-at.line c.loop-at.c c.loop-at.seen e.ensures.0 l
-          a.out.now _ c.loop-at.out c.loop-at.a c.loop-at.invariant.2 w.in-Member.d w.in-Member.u (st ∙ w.in-Member.is)
+          a.out.now _ c.loop-at.out c.loop-at.a c.loop-at.invariant.2 w.in-Member.d w.in-Member.u (st ∙ ap step_ok w.in-Member.is)
           _ _ w.put_drop-a.ensures _ w.sees-seen.ensures _ _ _ _ w.out-is w.a-is w.c-is w.seen-is
     ]
 
@@ -46,9 +46,6 @@ loop-at-init c =
           (left_begin c.args.out.now 0 w (omega (arith, c.requires.2))),
     )
 
-pub shape_of-out-then-sheet-e : goal.shape_of-out-then-sheet-e
-shape_of-out-then-sheet-e c = c.loop-at.invariant.2.same
-
 pub returns-then-sheet-e : goal.returns-then-sheet-e
 returns-then-sheet-e c =
     let a = c.args in
@@ -56,15 +53,12 @@ returns-then-sheet-e c =
     left_none a.out.now 0 _ b.out b.a _ b.invariant.2 (ap dropped_text (halts_drops a.sheet.now b.at b.line b.c _ c.line_end-e.ensures.0
     c.loop-at-test.true c.if-sheet-e.true a.n (has b.seen)))
 
-pub shape_of-out-in-Stop : goal.shape_of-out-in-Stop
-shape_of-out-in-Stop c = c.loop-at.invariant.2.same
-
-pub returns-in-Stop : goal.returns-in-Stop
-returns-in-Stop c =
+pub returns-in_default : goal.returns-in_default
+returns-in_default c =
     let a = c.args in
     let b = c.loop-at in
     left_none a.out.now 0 _ b.out b.a _ b.invariant.2 (ap dropped_text (turn_drops a.sheet.now b.at b.line b.c _ c.line_end-e.ensures.0
-    c.if-sheet-e.false _ (sym c.line_step.ensures ∙ c.in-Stop.is) a.n (has b.seen)))
+    c.if-sheet-e.false _ refl a.n (has b.seen) ∙ fault_drops a.n _ (λ x e. c.in_default.not-Ok x (c.line_step.ensures ∙ e)) b.line (has b.seen) _))
 
 pub put_drop-a-requires : goal.put_drop-a-requires
 put_drop-a-requires c =
@@ -72,26 +66,14 @@ put_drop-a-requires c =
       c.requires.0,
       omega (arith, c.requires.1, b.invariant.0, b.invariant.1),
       drops_room c.args.n c.args.sheet.now b.at _ b.line b.c b.seen c.line_end-e.ensures.0 c.if-sheet-e.false
-          c.args.out.now _ b.out b.a b.invariant.2 _ _ (sym c.line_step.ensures ∙ c.in-Member.is),
+          c.args.out.now _ b.out b.a b.invariant.2 _ _ (sym c.in-Ok.ensures ∙ ap step_ok c.in-Member.is),
     )
-
-pub overflow_add-at : goal.overflow_add-at
-overflow_add-at c = omega (arith, c.line_end-e.ensures.0)
-
-pub overflow_add-line : goal.overflow_add-line
-overflow_add-line c = omega (arith, c.requires.1, c.loop-at.invariant.0, c.loop-at.invariant.1)
-
-pub loop-at-smaller : goal.loop-at-smaller
-loop-at-smaller c = omega (arith, c.line_end-e.ensures.0)
 
 pub loop-at-preserved : goal.loop-at-preserved
 loop-at-preserved c =
     let b = c.loop-at in
     let e = c.line_end-e in
     (omega arith, omega (arith, e.ensures.0, b.invariant.1), turned c)
-
-pub shape_of-out : goal.shape_of-out
-shape_of-out c = c.loop-at.invariant.2.same
 
 pub returns : goal.returns
 returns c =

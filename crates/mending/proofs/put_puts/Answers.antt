@@ -2,17 +2,11 @@
 use mathlib.Core.Path.{ap}
 use native.Mathlib.Omega.{arith}
 use lib.ListN.{length}
-use Rattle.lines.proofs.Writing.{left_begin, left_put, left_none}
+use Rattle.lines.proofs.Writing.{left_put, left_none}
 use Rattle.mends.specs.Report.{entry_line, put_text}
 use Rattle.mending.proofs.Placing.{rest_size, rest_within, none_left}
 use Rattle.mending.proofs.Reports.{puts_more, puts_room}
 use Rattle.mending.proofs.put_puts.Goals as goal
-
-pub loop-left-init : goal.loop-left-init
-loop-left-init c = (c.requires.0, left_begin c.args.out.now c.args.at _ c.requires.2)
-
-pub bounds-colours-e : goal.bounds-colours-e
-bounds-colours-e c = let b = c.loop-left in b.invariant.0 _ c.lowest-e.ensures.member
 
 pub put_entry-a-requires : goal.put_entry-a-requires
 put_entry-a-requires c =
@@ -20,8 +14,8 @@ put_entry-a-requires c =
     let w = c.lowest-e.ensures in
     let e = c.lowest-e.result in (
       w.below,
-      omega (arith, c.wide.ensures, c.type_inv.colours e),
-      puts_room c.args.colours.now b.left e c.wide.result w c.wide.ensures c.args.out.now c.args.at _ b.out b.a b.invariant.1,
+      omega (arith, c.from.ensures, c.type_inv.colours e),
+      puts_room c.args.colours.now b.left e c.from.result w c.from.ensures c.args.out.now c.args.at _ b.out b.a b.invariant.1,
     )
 
 pub loop-left-smaller : goal.loop-left-smaller
@@ -33,14 +27,11 @@ loop-left-preserved c =
     let w = c.lowest-e.ensures in
     let e = c.lowest-e.result in
     let o = c.rest-left.ensures _ w in
-    let g = c.wide in (
+    let g = c.from in (
       rest_within (length c.args.colours.now) b.left e w c.rest-left.result o b.invariant.0,
       left_put c.args.out.now c.args.at _ b.out b.a _ b.invariant.1 (entry_line e g.result) _
           (puts_more c.args.colours.now b.left e c.rest-left.result g.result w o g.ensures) _ _ c.put_entry-a.ensures,
     )
-
-pub shape_of-out : goal.shape_of-out
-shape_of-out c = c.loop-left.invariant.1.same
 
 pub returns : goal.returns
 returns c =

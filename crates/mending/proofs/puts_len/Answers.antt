@@ -14,29 +14,8 @@ use Rattle.mending.proofs.puts_len.Goals as goal
 pub loop-left-init : goal.loop-left-init
 loop-left-init c = (c.requires.0, omega arith, omega (arith, count_few (has c.args.again) 64))
 
-pub overflow_add-e : goal.overflow_add-e
-overflow_add-e c = omega (arith, c.lowest-e.ensures.below)
-
-pub number_len-requires : goal.number_len-requires
-number_len-requires c = omega (arith, c.lowest-e.ensures.below)
-
 pub bounds-colours-e : goal.bounds-colours-e
 bounds-colours-e c = let b = c.loop-left in b.invariant.0 _ c.lowest-e.ensures.member
-
-pub overflow_add-wide : goal.overflow_add-wide
-overflow_add-wide c = omega (arith, c.wide.ensures, c.type_inv.colours c.lowest-e.result)
-
-pub number_len-requires-in-loop-left : goal.number_len-requires-in-loop-left
-number_len-requires-in-loop-left c = omega (arith, c.wide.ensures, c.type_inv.colours c.lowest-e.result)
-
-pub overflow_add-bytes : goal.overflow_add-bytes
-overflow_add-bytes c = omega (arith, c.number_len.ensures.1, c.number_len-in-loop-left.ensures.1)
-
-pub overflow_add-bytes-in-loop-left : goal.overflow_add-bytes-in-loop-left
-overflow_add-bytes-in-loop-left c = omega (arith, c.number_len.ensures.1, c.number_len-in-loop-left.ensures.1)
-
-pub overflow_add-bytes-in-loop-left-2 : goal.overflow_add-bytes-in-loop-left-2
-overflow_add-bytes-in-loop-left-2 c = omega (arith, c.number_len.ensures.1, c.number_len-in-loop-left.ensures.1, c.loop-left.invariant.2)
 
 pub loop-left-smaller : goal.loop-left-smaller
 loop-left-smaller c = omega (arith, rest_size 0 c.loop-left.left _ c.lowest-e.ensures _ (c.rest-left.ensures _ c.lowest-e.ensures))
@@ -47,7 +26,7 @@ loop-left-preserved c =
     let w = c.lowest-e.ensures in
     let e = c.lowest-e.result in
     let o = c.rest-left.ensures _ w in
-    let g = c.wide in
+    let g = c.from in
     let m = puts_more c.args.colours.now b.left e c.rest-left.result g.result w o g.ensures in
     let x = c.number_len.ensures in
     let y = c.number_len-in-loop-left.ensures in

@@ -6,14 +6,11 @@ use Rattle.mends.proofs.Sorted.{taken_is}
 use Rattle.mending.proofs.Reports.{sees_with, sees_same}
 use Rattle.mending.proofs.sees.Goals as goal
 
-pub overflow_sub-u : goal.overflow_sub-u
-overflow_sub-u c = omega (arith, (taken_is c.args.n (has c.args.seen) c.args.u (sym c.taken.ensures ∙ c.if-taken.true)).0)
-
 pub with-requires : goal.with-requires
 with-requires c = omega (arith, c.requires, (taken_is c.args.n (has c.args.seen) c.args.u (sym c.taken.ensures ∙ c.if-taken.true)).1)
 
 pub returns-then-taken : goal.returns-then-taken
 returns-then-taken c = sees_with c.args.n c.args.seen c.args.u (sym c.taken.ensures ∙ c.if-taken.true) _ c.with.ensures
 
-pub returns : goal.returns
-returns c = sees_same c.args.n c.args.seen c.args.u (sym c.taken.ensures ∙ c.if-taken.false)
+pub returns-else-taken : goal.returns-else-taken
+returns-else-taken c = sees_same c.args.n c.args.seen c.args.u (sym c.taken.ensures ∙ c.if-taken.false)

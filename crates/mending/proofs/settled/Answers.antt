@@ -9,21 +9,20 @@ use Rattle.mending.specs.Places.{NumberedOf}
 use Rattle.mending.proofs.Answers.{sets_are, sets_apart, sets_all}
 use Rattle.mending.proofs.settled.Goals as goal
 
-pub placed-groups-requires : goal.placed-groups-requires
-placed-groups-requires c = (c.requires.0, c.requires.3.within, c.requires.3.room, c.requires.2.fits.long)
+pub admit_all-requires : goal.admit_all-requires
+admit_all-requires c = (c.requires.0, c.requires.3.within, c.requires.3.room)
 
 pub in_order-requires : goal.in_order-requires
 in_order-requires c =
-    let p = c.placed-groups.ensures in (
+    let l = c.args.list.now in (
       c.requires.0.few,
-      p.1,
-      p.2,
-      sets_apart c.args.n (matrix c.args.rows.now) c.requires.1 c.args.g c.requires.2 c.args.again c.requires.3 c.placed-groups.result p.0,
-      sets_all c.args.n (matrix c.args.rows.now) c.requires.1 c.args.g c.requires.2 c.args.again c.requires.3 c.placed-groups.result p.0,
+      sets_apart l.n (matrix l.rows) c.requires.1 c.args.g.now c.requires.2 c.args.again c.requires.3 c.admit_all.new.self c.admit_all.ensures,
+      sets_all l.n (matrix l.rows) c.requires.1 c.args.g.now c.requires.2 c.args.again c.requires.3 c.admit_all.new.self c.admit_all.ensures,
     )
 
 pub returns : goal.returns
 returns c =
-    subst (λ (gs : List (ℕ → Bool)). NumberedOf c.args.n (group_place gs) c.in_order.result)
-    (sets_are c.args.n (matrix c.args.rows.now) c.requires.1 c.args.g c.requires.2 c.args.again c.requires.3 c.placed-groups.result c.placed-groups.ensures.0)
+    let l = c.args.list.now in
+    subst (λ (gs : List (ℕ → Bool)). NumberedOf l.n (group_place gs) c.in_order.result)
+    (sets_are l.n (matrix l.rows) c.requires.1 c.args.g.now c.requires.2 c.args.again c.requires.3 c.admit_all.new.self c.admit_all.ensures)
     c.in_order.ensures

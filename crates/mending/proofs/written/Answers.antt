@@ -1,5 +1,5 @@
 -- `mending::written` meets its contract: 19, or the whole output. Assumes nothing.
-use mathlib.Core.Path.{◌≡◌, refl, sym, ap, subst, ◌∙◌}
+use mathlib.Core.Path.{◌≡◌, refl, sym, subst}
 use Prim.Native.Nat.{ℕ, ◌≤◌, ◌+◌}
 use mathlib.Core.List.{List, ◌++◌}
 use lib.ListN.{length, take}
@@ -14,60 +14,42 @@ use Rattle.mending.proofs.Answers.{colours_long, colours_canon, colours_groups, 
 use borrow.Author.Rules.{rules}
 use Rattle.mending.proofs.written.Goals as goal
 
-pub slice_bounds-compose-end : goal.slice_bounds-compose-end
-slice_bounds-compose-end c = sym (colours_long c.args.n c.requires.0.few c.settled-order.result _ c.settled-order.ensures)
-
 pub compose-text-requires : goal.compose-text-requires
 compose-text-requires c =
     let o = c.settled-order in (
-      omega (arith, c.requires.0.few, colours_long c.args.n c.requires.0.few o.result _ o.ensures),
-      colours_canon c.args.n c.requires.0.few o.result _ o.ensures,
-      colours_groups c.args.n c.requires.0.few o.result _ o.ensures,
+      omega (arith, c.requires.0.few, colours_long c.args.list.now.n c.requires.0.few o.result _ o.ensures),
+      colours_canon c.args.list.now.n c.requires.0.few o.result _ o.ensures,
+      colours_groups c.args.list.now.n c.requires.0.few o.result _ o.ensures,
     )
-
-pub slice_bounds-puts_len-end : goal.slice_bounds-puts_len-end
-slice_bounds-puts_len-end c = sym (colours_long c.args.n c.requires.0.few c.settled-order.result _ c.settled-order.ensures)
 
 pub puts_len-puts-requires : goal.puts_len-puts-requires
 puts_len-puts-requires c =
     let o = c.settled-order in
-    let l = colours_long c.args.n c.requires.0.few o.result _ o.ensures in
-    (λ j t. omega (arith, c.put_again-again.ensures.within j t, l), omega (arith, c.requires.0.few, l))
-
-pub overflow_add-g : goal.overflow_add-g
-overflow_add-g c = omega (arith, c.requires.3.small, c.puts_len-puts.ensures.1)
-
-pub overflow_add-g-2 : goal.overflow_add-g-2
-overflow_add-g-2 c = omega (arith, c.requires.3.small, c.puts_len-puts.ensures.1, c.compose-text.ensures.0)
+    let l = colours_long c.args.list.now.n c.requires.0.few o.result _ o.ensures in
+    (λ j t. omega (arith, c.again-again.ensures.within j t, l), omega (arith, c.requires.0.few, l))
 
 pub returns-then-out-g : goal.returns-then-out-g
 returns-then-out-g c =
     let o = c.settled-order in
-    let e = c.put_again-again in
-    let z = whole_length c.args.n (matrix c.args.rows.now) c.args.sheet.now c.requires.2 c.args.g c.requires.3 e.result e.ensures o.result o.ensures
+    let e = c.again-again in
+    let z = whole_length c.args.list.now.n (matrix c.args.list.now.rows) c.args.sheet.now c.requires.2 c.args.g.now c.requires.3 e.result e.ensures o.result o.ensures
     _ _ _ refl c.puts_len-puts.ensures.0 c.compose-text.ensures.1 in
-    answered_full c.args.n (matrix c.args.rows.now) c.args.sheet.now c.requires.2 c.args.g c.requires.3 e.result e.ensures o.result o.ensures
+    answered_full c.args.list.now.n (matrix c.args.list.now.rows) c.args.sheet.now c.requires.2 c.args.g.now c.requires.3 e.result e.ensures o.result o.ensures
     c.args.out.now (omega (arith, z, c.if-out-g.true))
-
-pub slice_bounds-put_output-end : goal.slice_bounds-put_output-end
-slice_bounds-put_output-end c = sym (colours_long c.args.n c.requires.0.few c.settled-order.result _ c.settled-order.ensures)
 
 pub slice_bounds-bytes-end : goal.slice_bounds-bytes-end
 slice_bounds-bytes-end c = let z : length c.compose-text.result.bytes ≡ 768 = search rules in omega (arith, c.compose-text.ensures.0)
 
-pub slice_bounds-put_output-end-2 : goal.slice_bounds-put_output-end-2
-slice_bounds-put_output-end-2 c = c.compose-text.ensures.1 ∙ sym (ap length c.compose-text.ensures.2)
-
 pub put_output-whole-requires : goal.put_output-whole-requires
 put_output-whole-requires c =
     let o = c.settled-order in
-    let e = c.put_again-again in
+    let e = c.again-again in
     let t = c.compose-text in
-    let l = colours_long c.args.n c.requires.0.few o.result _ o.ensures in
-    let z = whole_length c.args.n (matrix c.args.rows.now) c.args.sheet.now c.requires.2 c.args.g c.requires.3 e.result e.ensures o.result o.ensures
+    let l = colours_long c.args.list.now.n c.requires.0.few o.result _ o.ensures in
+    let z = whole_length c.args.list.now.n (matrix c.args.list.now.rows) c.args.sheet.now c.requires.2 c.args.g.now c.requires.3 e.result e.ensures o.result o.ensures
     _ _ _ refl c.puts_len-puts.ensures.0 t.ensures.1 in
-    let d = dropped_text (dropped_of c.args.n c.args.sheet.now) in
-    let p = put_text (take c.args.n o.result.colours) (members (has e.result) 64) in (
+    let d = dropped_text (dropped_of c.args.list.now.n c.args.sheet.now) in
+    let p = put_text (take c.args.list.now.n o.result.colours) (members (has e.result) 64) in (
       c.requires.0.few,
       c.requires.2,
       λ j t. omega (arith, e.ensures.within j t, l),
@@ -78,13 +60,13 @@ put_output-whole-requires c =
 pub returns : goal.returns
 returns c =
     let o = c.settled-order in
-    let e = c.put_again-again in
+    let e = c.again-again in
     let t = c.compose-text in
-    let z = whole_length c.args.n (matrix c.args.rows.now) c.args.sheet.now c.requires.2 c.args.g c.requires.3 e.result e.ensures o.result o.ensures
+    let z = whole_length c.args.list.now.n (matrix c.args.list.now.rows) c.args.sheet.now c.requires.2 c.args.g.now c.requires.3 e.result e.ensures o.result o.ensures
     _ _ _ refl c.puts_len-puts.ensures.0 t.ensures.1 in
-    let d = dropped_text (dropped_of c.args.n c.args.sheet.now) in
-    let p = put_text (take c.args.n o.result.colours) (members (has e.result) 64) in
-    answered_written c.args.n (matrix c.args.rows.now) c.args.sheet.now c.requires.2 c.args.g c.requires.3 e.result e.ensures o.result o.ensures
+    let d = dropped_text (dropped_of c.args.list.now.n c.args.sheet.now) in
+    let p = put_text (take c.args.list.now.n o.result.colours) (members (has e.result) 64) in
+    answered_written c.args.list.now.n (matrix c.args.list.now.rows) c.args.sheet.now c.requires.2 c.args.g.now c.requires.3 e.result e.ensures o.result o.ensures
     c.args.out.now _ _ (omega (arith, z, c.if-out-g.false))
     (subst (λ (x : List ℕ). Put c.args.out.now 0 (d ++ (p ++ x)) c.put_output-whole.new.out c.put_output-whole.result) t.ensures.2
     c.put_output-whole.ensures)

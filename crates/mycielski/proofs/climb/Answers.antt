@@ -7,134 +7,148 @@ use native.Mathlib.Numerals.{add-one}
 use native.Mathlib.Omega.{arith}
 use Rattle.graphs.specs.Held.{holding}
 use Rattle.sets.specs.Set.{size}
-use Rattle.mycielski.specs.Words.{part_of}
+use Rattle.mycielski.specs.Words.{sub, part_of}
 use Rattle.mycielski.proofs.ClimbLaws.{Climb, clique_live, climb_among, climb_le, climb_full, climb_none, climb_more, climb_w, climb_next, first_among, first_fit, first_w, first_next}
-use borrow.Author.Rules.{rules}
 use Rattle.mycielski.proofs.climb.Goals as goal
 
-pub first_servings-fit-requires : goal.first_servings-fit-requires
-first_servings-fit-requires c =
-    let q = c.requires.holds in record { rows_len = q.1.rows_long; within = clique_live (holding c.args.live c.args.rows.now q.0) q.1 c.args.c (c.requires.each q.0 q.1) }
+pub first_servings-requires-clause-within : goal.first_servings-requires-clause-within
+first_servings-requires-clause-within g c =
+    let b = g.S.Bits in
+    let a = c.args in
+    let q = c.requires.holds in
+    clique_live (holding (b.as_num a.live) (b.as_rows a.rows.now) q.0) q.1 (b.as_num a.c) (c.requires.each q.0 q.1)
 
-pub lowest-requires : goal.lowest-requires
-lowest-requires c = c.requires.fact
+pub extended-set-requires-clause-among : goal.extended-set-requires-clause-among
+extended-set-requires-clause-among g c =
+    let b = g.S.Bits in
+    let a = c.args in
+    let q = c.requires.holds in
+    first_among (holding (b.as_num a.live) (b.as_rows a.rows.now) q.0) q.1 (b.as_num a.c) (sub (b.as_num a.c) (b.as_rows c.whole.new.near))
+    c.whole.ensures.near_after (c.requires.each q.0 q.1)
 
-pub extended-p-requires : goal.extended-p-requires
-extended-p-requires c =
-    let p = c.whole in
-    let q = c.requires.holds in record {
-      holds = q;
-      among = first_among (holding c.args.live c.args.rows.now q.0) q.1 c.args.c p.result p.ensures (c.requires.each q.0 q.1);
-      w_bound = c.lowest.ensures.below;
-      each = λ m k.
-          first_w (holding c.args.live c.args.rows.now m) k c.args.c p.result p.ensures (c.requires.each m k) c.requires.c_bound c.args.ws
-          (c.requires.each_2 m k) c.lowest.result c.lowest.ensures;
-      each_2 = λ m k.
-          first_fit (holding c.args.live c.args.rows.now m) k c.args.c p.result p.ensures (c.requires.each m k)
-          c.first_servings-fit.result (c.first_servings-fit.ensures m k);
-    }
+pub extended-set-requires-clause-each : goal.extended-set-requires-clause-each
+extended-set-requires-clause-each g c =
+    let b = g.S.Bits in
+    let a = c.args in
+    λ m k.
+    first_w (holding (b.as_num a.live) (b.as_rows a.rows.now) m) k (b.as_num a.c) (sub (b.as_num a.c) (b.as_rows c.whole.new.near)) c.whole.ensures.near_after
+    (c.requires.each m k) c.requires.c_bound (b.as_num a.ws) (c.requires.each_2 m k) c.lowest.result c.lowest.ensures
+
+pub extended-set-requires-clause-each_2 : goal.extended-set-requires-clause-each_2
+extended-set-requires-clause-each_2 g c =
+    let b = g.S.Bits in
+    let a = c.args in
+    λ m k.
+    first_fit (holding (b.as_num a.live) (b.as_rows a.rows.now) m) k (b.as_num a.c) (sub (b.as_num a.c) (b.as_rows c.whole.new.near)) c.whole.ensures.near_after
+    (c.requires.each m k) (b.as_rows c.first_servings.new.fit) (c.first_servings.ensures.serves m k)
 
 pub loop-b-init : goal.loop-b-init
-loop-b-init c =
-    let p = c.whole in
-    let b = c.size-b in
-    let w = c.lowest in
-    λ m k.
-    let e : suc (size 64 c.args.c) ≡ b.result + 1 = omega (arith, b.ensures) in
-    subst (λ b. Climb (holding c.args.live c.args.rows.now m) k (part_of c.extended-p.result) b) e
-    (first_next (holding c.args.live c.args.rows.now m) k c.args.c p.result p.ensures (c.requires.each m k) c.requires.c_bound c.args.ws
-    (c.requires.each_2 m k) w.result w.ensures c.extended-p.result (c.extended-p.ensures m k))
+loop-b-init g c =
+    let b = g.S.Bits in
+    let a = c.args in
+    let next = c.extended-set in (
+      next.ensures.near_len,
+      c.first_servings.ensures.fit_len_2,
+      λ m k.
+          let h = holding (b.as_num a.live) (b.as_rows a.rows.now) m in
+          let up : suc (size b.cap (b.as_num a.c)) ≡ c.size-b.result + 1 = omega (arith, c.size-b.ensures) in
+          let after = sub (b.as_num next.result) (b.as_rows next.new.near) in
+          subst (λ n. Climb h k (part_of after) n) up
+          (first_next h k (b.as_num a.c) (sub (b.as_num a.c) (b.as_rows c.whole.new.near)) c.whole.ensures.near_after (c.requires.each m k) c.requires.c_bound
+          (b.as_num a.ws) (c.requires.each_2 m k) c.lowest.result c.lowest.ensures after (next.ensures.round m k)),
+    )
 
 pub returns-then-all-size : goal.returns-then-all-size
-returns-then-all-size c =
-    let sized = c.size-all in
+returns-then-all-size g c =
+    let b = g.S.Bits in
+    let a = c.args in
     let l = c.loop-b in
     λ m k.
-    let h = holding c.args.live c.args.rows.now m in
-    let e = climb_full h k l.p.set (part_of l.p).edge l.b (l.invariant m k) (omega (arith, c.if-all-size.true, sized.ensures, c.size.ensures)) in
+    let h = holding (b.as_num a.live) (b.as_rows a.rows.now) m in
+    let e = climb_full h k (b.as_num l.set) (part_of (sub (b.as_num l.set) (b.as_rows l.near))).edge l.b (l.invariant.2 m k)
+    (omega (arith, c.if-all-size.true, c.size-all.ensures, c.size.ensures)) in
     record { most = le_of_eq e; exact = λ q. e }
 
-pub witnesses-ws-requires : goal.witnesses-ws-requires
-witnesses-ws-requires c =
+pub witnesses-ws-requires-clause-among : goal.witnesses-ws-requires-clause-among
+witnesses-ws-requires-clause-among g c =
+    let b = g.S.Bits in
     let l = c.loop-b in
-    let q = c.requires.holds in record { rows_len = (q.1.rows_long, search rules); among = climb_among (holding c.args.live c.args.rows.now q.0) q.1 l.p l.b (l.invariant q.0 q.1) }
+    let q = c.requires.holds in
+    climb_among (holding (b.as_num c.args.live) (b.as_rows c.args.rows.now) q.0) q.1 (sub (b.as_num l.set) (b.as_rows l.near)) l.b (l.invariant.2 q.0 q.1)
 
-pub returns-then-ws-eq0 : goal.returns-then-ws-eq0
-returns-then-ws-eq0 c =
-    let sized = c.size-all in
+pub returns-then-is_empty : goal.returns-then-is_empty
+returns-then-is_empty g c =
+    let b = g.S.Bits in
+    let a = c.args in
     let l = c.loop-b in
-    let sized3 = c.size in
-    let test = c.if-all-size in
-    let witnesses = c.witnesses-ws in
     λ m k.
-    let h = holding c.args.live c.args.rows.now m in
-    let e = climb_none h k l.p.set (part_of l.p).edge l.b (l.invariant m k) (omega (arith, test.false, sized.ensures, sized3.ensures))
-    witnesses.result (witnesses.ensures m k) c.if-ws-eq0.true in
+    let h = holding (b.as_num a.live) (b.as_rows a.rows.now) m in
+    let e = climb_none h k (b.as_num l.set) (part_of (sub (b.as_num l.set) (b.as_rows l.near))).edge l.b (l.invariant.2 m k)
+    (omega (arith, c.if-all-size.false, c.size-all.ensures, c.size.ensures)) (b.as_num c.witnesses-ws.result) (c.witnesses-ws.ensures m k)
+    (c.is_empty.ensures.0 c.if-is_empty.true) in
     record { most = le_of_eq e; exact = λ q. e }
 
 pub returns-then-enough-b : goal.returns-then-enough-b
-returns-then-enough-b c =
-    let sized = c.size-all in
+returns-then-enough-b g c =
+    let b = g.S.Bits in
+    let a = c.args in
     let l = c.loop-b in
-    let sized3 = c.size in
-    let test = c.if-all-size in
-    let witnesses = c.witnesses-ws in
     λ m k.
-    let h = holding c.args.live c.args.rows.now m in
-    let e = climb_more h k l.p.set (part_of l.p).edge l.b (l.invariant m k) (omega (arith, test.false, sized.ensures, sized3.ensures))
-    witnesses.result (witnesses.ensures m k) c.if-ws-eq0.false in
+    let h = holding (b.as_num a.live) (b.as_rows a.rows.now) m in
+    let e = climb_more h k (b.as_num l.set) (part_of (sub (b.as_num l.set) (b.as_rows l.near))).edge l.b (l.invariant.2 m k)
+    (omega (arith, c.if-all-size.false, c.size-all.ensures, c.size.ensures)) (b.as_num c.witnesses-ws.result) (c.witnesses-ws.ensures m k)
+    (c.is_empty.ensures.1 c.if-is_empty.false) in
     record { most = rw (add-one l.b) e; exact = λ q. absurd (let z : ⊥ = omega (arith, c.if-enough-b.true) in z) }
 
-pub servings-fit-requires : goal.servings-fit-requires
-servings-fit-requires c =
+pub servings-requires-clause-among : goal.servings-requires-clause-among
+servings-requires-clause-among g c =
+    let b = g.S.Bits in
     let l = c.loop-b in
-    let q = c.requires.holds in record { rows_len = (q.1.rows_long, search rules); among = climb_among (holding c.args.live c.args.rows.now q.0) q.1 l.p l.b (l.invariant q.0 q.1) }
+    let q = c.requires.holds in
+    climb_among (holding (b.as_num c.args.live) (b.as_rows c.args.rows.now) q.0) q.1 (sub (b.as_num l.set) (b.as_rows l.near)) l.b (l.invariant.2 q.0 q.1)
 
-pub lowest-requires-in-loop-b : goal.lowest-requires-in-loop-b
-lowest-requires-in-loop-b c = c.if-ws-eq0.false
-
-pub extended-p-requires-in-loop-b : goal.extended-p-requires-in-loop-b
-extended-p-requires-in-loop-b c =
-    let sized = c.size-all in
+pub extended-set-requires-in-loop-b-clause-among : goal.extended-set-requires-in-loop-b-clause-among
+extended-set-requires-in-loop-b-clause-among g c =
+    let b = g.S.Bits in
     let l = c.loop-b in
-    let sized3 = c.size in
-    let test = c.if-all-size in
-    let witnesses = c.witnesses-ws in
-    let low2 = c.lowest-in-loop-b in
-    let q = c.requires.holds in record {
-      holds = q;
-      among = climb_among (holding c.args.live c.args.rows.now q.0) q.1 l.p l.b (l.invariant q.0 q.1);
-      w_bound = low2.ensures.below;
-      each = λ m k.
-          climb_w (holding c.args.live c.args.rows.now m) k l.p.set (part_of l.p).edge l.b (l.invariant m k)
-          (omega (arith, test.false, sized.ensures, sized3.ensures)) witnesses.result (witnesses.ensures m k) low2.result low2.ensures;
-      each_2 = λ m k. c.servings-fit.ensures m k;
-    }
+    let q = c.requires.holds in
+    climb_among (holding (b.as_num c.args.live) (b.as_rows c.args.rows.now) q.0) q.1 (sub (b.as_num l.set) (b.as_rows l.near)) l.b (l.invariant.2 q.0 q.1)
 
-pub overflow_add-b-in-loop-b-2 : goal.overflow_add-b-in-loop-b-2
-overflow_add-b-in-loop-b-2 c =
-    let ends = c.loop-b-test in
-    omega (arith, ends.true, c.ranges.enough.fits)
+pub extended-set-requires-in-loop-b-clause-each : goal.extended-set-requires-in-loop-b-clause-each
+extended-set-requires-in-loop-b-clause-each g c =
+    let b = g.S.Bits in
+    let a = c.args in
+    let l = c.loop-b in
+    let low = c.lowest-in-loop-b in
+    λ m k.
+    climb_w (holding (b.as_num a.live) (b.as_rows a.rows.now) m) k (b.as_num l.set) (part_of (sub (b.as_num l.set) (b.as_rows l.near))).edge l.b
+    (l.invariant.2 m k) (omega (arith, c.if-all-size.false, c.size-all.ensures, c.size.ensures))
+    (b.as_num c.witnesses-ws.result) (c.witnesses-ws.ensures m k) low.result low.ensures
 
 pub loop-b-preserved : goal.loop-b-preserved
-loop-b-preserved c =
-    let sized = c.size-all in
+loop-b-preserved g c =
+    let b = g.S.Bits in
+    let a = c.args in
     let l = c.loop-b in
-    let sized3 = c.size in
-    let test = c.if-all-size in
-    let witnesses = c.witnesses-ws in
-    let low2 = c.lowest-in-loop-b in
-    λ m k.
-    rw (add-one l.b)
-    (climb_next (holding c.args.live c.args.rows.now m) k l.p.set (part_of l.p).edge l.b (l.invariant m k)
-    (omega (arith, test.false, sized.ensures, sized3.ensures)) witnesses.result (witnesses.ensures m k) low2.result low2.ensures
-    (part_of c.extended-p-in-loop-b.result) (c.extended-p-in-loop-b.ensures m k))
+    let low = c.lowest-in-loop-b in
+    let next = c.extended-set-in-loop-b in (
+      next.ensures.near_len,
+      c.servings.ensures.fit_len_2,
+      λ m k.
+          rw (add-one l.b)
+          (climb_next (holding (b.as_num a.live) (b.as_rows a.rows.now) m) k (b.as_num l.set) (part_of (sub (b.as_num l.set) (b.as_rows l.near))).edge l.b
+          (l.invariant.2 m k) (omega (arith, c.if-all-size.false, c.size-all.ensures, c.size.ensures))
+          (b.as_num c.witnesses-ws.result) (c.witnesses-ws.ensures m k) low.result low.ensures _ (next.ensures.round m k)),
+    )
 
 pub returns : goal.returns
-returns c =
+returns g c =
+    let b = g.S.Bits in
+    let a = c.args in
     let l = c.loop-b in
     λ m k.
     record {
-      most = climb_le (holding c.args.live c.args.rows.now m) k l.p.set (part_of l.p).edge l.b (l.invariant m k);
+      most = climb_le (holding (b.as_num a.live) (b.as_rows a.rows.now) m) k (b.as_num l.set) (part_of (sub (b.as_num l.set) (b.as_rows l.near))).edge l.b
+          (l.invariant.2 m k);
       exact = λ q. absurd (let z : ⊥ = omega (arith, c.loop-b-test.false) in z);
     }

@@ -2,8 +2,10 @@ use Rattle.sets.specs.Set.{size}
 use Rattle.mycielski.proofs.FirstLoops.{Lacking}
 use Rattle.mycielski.proofs.lacking.Given as goal
 
-abbrev pub invariant-loop-left : goal.invariant-loop-left
-invariant-loop-left l = Lacking 64 l.live l.rows l.c l.once l.twice l.left
+abbrev pub invariant-loop-live : goal.invariant-loop-live
+invariant-loop-live g l =
+    let b = g.S.Bits in
+    Lacking b.cap (b.as_num l.live) (b.as_rows l.rows) (b.as_num l.initial.left) (b.as_num l.once) (b.as_num l.twice) (b.as_num l.left)
 
-abbrev pub decreases-loop-left : goal.decreases-loop-left
-decreases-loop-left l = size 64 l.left
+abbrev pub decreases-loop-live : goal.decreases-loop-live
+decreases-loop-live g l = let b = g.S.Bits in size b.cap (b.as_num l.left)

@@ -1,16 +1,19 @@
 use mathlib.Core.Path.{◌≡◌}
 use lib.ListN.{length, get_or}
 use Rattle.sets.specs.Set.{has, size}
-use Rattle.graphs.specs.Held.{view, Held, holding}
+use Rattle.graphs.specs.Held.{view, HeldAt, holding}
 use Rattle.graphs.specs.declared.Node.{Node}
 use Rattle.mycielski.specs.Rounds.{near_all}
 use Rattle.mycielski.proofs.FitLoops.{Fitting}
 use Rattle.mycielski.proofs.servings.Given as goal
 
-abbrev pub invariant-loop-left : goal.invariant-loop-left
-invariant-loop-left l =
-    (length l.fit ≡ 64)
-    × ((m : Node) → Held (holding l.live l.rows m) → Fitting 64 l.set (λ v. near_all m.n (view (holding l.live l.rows m)) (has (get_or l.near v 0))) l.fit l.left)
+abbrev pub invariant-loop-live : goal.invariant-loop-live
+invariant-loop-live g l =
+    let b = g.S.Bits in
+    (length l.fit ≡ b.lent)
+    × ((m : Node) → HeldAt b.cap (holding (b.as_num l.live) (b.as_rows l.rows) m)
+    → Fitting b.cap (b.as_num l.initial.left) (λ v. near_all m.n (view (holding (b.as_num l.live) (b.as_rows l.rows) m)) (has (get_or (b.as_rows l.near) v 0)))
+    (b.as_rows l.fit) (b.as_num l.left))
 
-abbrev pub decreases-loop-left : goal.decreases-loop-left
-decreases-loop-left l = size 64 l.left
+abbrev pub decreases-loop-live : goal.decreases-loop-live
+decreases-loop-live g l = let b = g.S.Bits in size b.cap (b.as_num l.left)

@@ -1,4 +1,4 @@
-use Prim.Native.Nat.{suc, ◌-◌}
+use Prim.Native.Nat.{◌-◌}
 use lib.ListN.{length}
 use Rattle.placing.proofs.Turns.{Turn}
 use Rattle.placing.proofs.+enter.Given as goal
@@ -9,7 +9,4 @@ decreases-enter l = length l.rows.now - l.at
 
 -- what holds where group j's turn begins
 abbrev pub invariant-loop-j : goal.invariant-loop-j
-invariant-loop-j l = Turn 64 l.rows l.at l.m l.initial.groups l.initial.placed l.initial.t l.groups l.placed l.t l.j
-
-abbrev pub decreases-loop-j : goal.decreases-loop-j
-decreases-loop-j l = suc l.m - l.j
+invariant-loop-j l = Turn 64 l.rows l.at l.m l.initial.groups l.initial.placed l.initial.s l.groups l.placed l.s l.j

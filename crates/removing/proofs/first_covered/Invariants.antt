@@ -1,23 +1,19 @@
 use mathlib.Core.Bool.{Bool}
 use mathlib.Core.List.{List}
-use mathlib.Core.Option.{Option, none}
 use Prim.Native.Nat.{ℕ}
 use lib.ListN.{length}
 use Rattle.sets.specs.Set.{has, size}
 use Rattle.clashes.specs.Matrix.{matrix}
-use Rattle.shrink.specs.Rules.{Removal, is_covered, choose}
+use Rattle.shrink.specs.Rules.{is_covered}
 use Rattle.removing.proofs.LookLaws.{Looked}
 use Rattle.removing.proofs.first_covered.Given as goal
 
--- who is covered, and what the lowest of them comes to
+-- who is covered
 abbrev pub test : List ℕ → ℕ → ℕ → Bool
 test rows present = is_covered (length rows) (matrix rows) (has present)
 
-abbrev pub pick : List ℕ → ℕ → Option ℕ → Option Removal
-pick rows present o = choose (length rows) (matrix rows) (has present) o none
-
 abbrev pub invariant-loop-left : goal.invariant-loop-left
-invariant-loop-left l = Looked (length l.rows) (has l.present) (test l.rows l.present) (pick l.rows l.present) l.left l.found
+invariant-loop-left l = Looked (length l.rows) (has l.present) (test l.rows l.present) l.left
 
 abbrev pub decreases-loop-left : goal.decreases-loop-left
 decreases-loop-left l = size 64 l.left

@@ -1,127 +1,129 @@
--- `restoring::put_back` meets its contract: all but the first gone - back are back. Assumes nothing.
-use mathlib.Core.Path.{subst}
-use Prim.Native.Nat.{ℕ, suc, ◌+◌, ◌-◌, ◌≤◌, ◌<◌}
+-- `restoring::put_back` meets its contract: those who are still to be put back are the first who went. Assumes nothing.
+use mathlib.Core.Path.{◌≡◌, refl, sym, ap, ◌∙◌, subst}
+use mathlib.Core.List.{List, [], ◌∷◌, ◌++◌}
+use Prim.Native.Nat.{ℕ, suc, ◌≤◌, ◌<◌}
+use native.Mathlib.Numerals.{add-one}
 use native.Mathlib.Omega.{arith}
-use lib.ListN.{length, get_or}
-use Rattle.restoring.specs.Seats.{Seat}
+use borrow.Author.Rules.{rules}
+use lib.ListN.{length, get_or, take, length-append, length-take}
+use lib.Seq.{take_at, get_or-take, take-take}
+use Rattle.removing.specs.Words.{nobody}
+use Rattle.removing.specs.declared.Goes.{Goes}
+use Rattle.restoring.specs.Seats.{Seat, Joined}
 use Rattle.restoring.proofs.ReturnLaws.{Returns, returns_start, returns_next, returns_end, who_is, other_below, seat_is}
 use Rattle.restoring.proofs.put_back.Goals as goal
-use Rattle.restoring.proofs.put_back.Goals.{At-loop-back}
+use Rattle.restoring.proofs.put_back.Goals.{In-Some}
 
--- one more than the one that is put back next are not back
-waiting : (c : At-loop-back) → c.loop-back.back < c.args.s.gone
+last_of : (l : List Goes) (x d : Goes) → get_or (l ++ x ∷ []) (length l) d ≡ x
+last_of [] x d = refl
+last_of (y ∷ l) x d = last_of l x d
+
+-- the last of the first is the one that is put back next
+record Last (went rest rest' : List Goes) (x : Goes) : Type 0 where
+  before : rest' ≡ take (length rest') went
+  is : x ≡ get_or went (length rest') nobody
+  many : length rest ≡ suc (length rest')
+
+last : (went rest rest' : List Goes) (x : Goes) → rest ≡ rest' ++ x ∷ [] → rest ≡ take (length rest) went → Last went rest rest' x
+last went rest rest' x e f = record { before = before; is = is; many = many }
+  where
+    many : length rest ≡ suc (length rest')
+    many = ap length e ∙ length-append rest' (x ∷ []) ∙ add-one (length rest')
+
+    whole : take (suc (length rest')) went ≡ rest' ++ x ∷ []
+    whole = ap (λ (k : ℕ). take k went) (sym many) ∙ sym f ∙ e
+
+    before : rest' ≡ take (length rest') went
+    before =
+        sym (take_at rest' (x ∷ []) (length rest') refl) ∙ ap (take (length rest')) (sym whole)
+        ∙ take-take (length rest') (suc (length rest')) went (omega arith)
+
+    is : x ≡ get_or went (length rest') nobody
+    is =
+        sym (last_of rest' x nobody) ∙ ap (λ (l : List Goes). get_or l (length rest') nobody) (sym whole)
+        ∙ get_or-take (suc (length rest')) went (length rest') nobody (omega arith)
+
+pub loop-goes-init : goal.loop-goes-init
+loop-goes-init c =
+    let a = c.args in
+    let s = a.s in
+    let e : c.into_iter-goes-iterator.result.iter.rest.now ≡ take s.gone s.went = search rules in
+    let n : length (take s.gone s.went) ≡ s.gone = omega (arith, length-take {A = Goes}) in
+    let m : length c.into_iter-goes-iterator.result.iter.rest.now ≡ s.gone = ap length e ∙ n in
+    record {
+      first = e ∙ ap (λ (k : ℕ). take k s.went) (sym m);
+      back = subst (λ (i : ℕ). Returns 64 a.rows.now s.went s.gone a.seats i a.seats) (sym m) (returns_start 64 a.rows.now s.went s.gone a.seats c.requires);
+    }
+
+-- who is put back next
+next : (c : In-Some) → Last c.args.s.went c.loop-goes.goes-iterator.iter.rest.now c.next.new.self.iter.rest.now c.in-Some.field-0.now
+next c = last _ _ _ _ c.in-Some.ensures.steps c.loop-goes.invariant.first
+
+-- all but it and those before it are back
+back : (c : In-Some)
     → let a = c.args in
-    let l = c.loop-back in
-    Returns 64 a.rows.now a.s.who a.s.other a.s.gone a.seats (suc (a.s.gone - (l.back + 1))) l.group l.sets l.many
-waiting c t =
+    Returns 64 a.rows.now a.s.went a.s.gone a.seats (suc (length c.next.new.self.iter.rest.now)) c.loop-goes.seats
+back c =
     let a = c.args in
-    let l = c.loop-back in
-    subst (λ (i : ℕ). Returns 64 a.rows.now a.s.who a.s.other a.s.gone a.seats i l.group l.sets l.many)
-    (omega (arith, t)) l.invariant.1
+    subst (λ (i : ℕ). Returns 64 a.rows.now a.s.went a.s.gone a.seats i c.loop-goes.seats) (next c).many c.loop-goes.invariant.back
 
--- it is an entry, as the other that was noted is
-entries : (c : At-loop-back) → c.loop-back.back < c.args.s.gone
-    → let l = c.loop-back in
-    let i = c.args.s.gone - (l.back + 1) in
-    (get_or c.args.s.who i 0 < length c.args.rows.now) × (get_or c.args.s.other i 0 < length c.args.rows.now)
-    × (length c.args.rows.now ≤ 64)
-    × (l.many + suc i ≤ length c.args.rows.now)
-entries c t =
+-- it is an entry, as the other that was noted is, and there is room for one more group
+inside : (c : In-Some)
+    → let n = length c.args.rows.now in
+    let g = c.in-Some.field-0.now in
+    (g.who < n) × (g.other < n) × (n ≤ 64) × (c.loop-goes.seats.many < n)
+inside c =
     let a = c.args in
-    let l = c.loop-back in
-    let i = a.s.gone - (l.back + 1) in (
-      (who_is 64 a.rows.now a.s.who a.s.other a.s.gone a.seats c.requires i l.group l.sets l.many (waiting c t)).0,
-      other_below 64 a.rows.now a.s.who a.s.other a.s.gone a.seats c.requires i l.group l.sets l.many (waiting c t),
+    let b = back c in
+    let i = length c.next.new.self.iter.rest.now in
+    let h = c.loop-goes.seats in
+    let n = length a.rows.now in (
+      subst (λ (g : Goes). g.who < n) (sym (next c).is) (who_is 64 a.rows.now a.s.went a.s.gone a.seats c.requires i h b).0,
+      subst (λ (g : Goes). g.other < n) (sym (next c).is) (other_below 64 a.rows.now a.s.went a.s.gone a.seats c.requires i h b),
       c.requires.few,
-      (waiting c t).room,
+      omega (arith, b.room),
     )
 
 -- the group that is found is one of those there are, or the next
-found : (c : At-loop-back) → c.loop-back.back < c.args.s.gone
-    → (j : ℕ)
-    → (let a = c.args in
-    let i = a.s.gone - (c.loop-back.back + 1) in
-    Seat a.rows.now (get_or a.s.who i 0) (get_or a.s.other i 0) c.loop-back.group c.loop-back.sets c.loop-back.many j)
-    → (j ≤ c.loop-back.many) × (j < 64)
-found c t j s =
+found : (c : In-Some) (j : ℕ) → Seat c.args.rows.now c.in-Some.field-0.now c.loop-goes.seats j
+    → Seat c.args.rows.now (get_or c.args.s.went (length c.next.new.self.iter.rest.now) nobody) c.loop-goes.seats j × (j < 64)
+found c j s =
     let a = c.args in
-    let l = c.loop-back in
-    let i = a.s.gone - (l.back + 1) in
-    let e = entries c t in
-    let b = seat_is 64 a.rows.now a.s.who a.s.other a.s.gone a.seats c.requires i l.group l.sets l.many (waiting c t)
-    j s in
-    (b.0, omega (arith, b.0, e.3, e.2))
-
-pub loop-back-init : goal.loop-back-init
-loop-back-init c =
-    let g = c.args.s in (
-      omega arith,
-      subst (λ (i : ℕ). Returns 64 c.args.rows.now g.who g.other g.gone c.args.seats i c.args.seats.group
-          c.args.seats.sets c.args.seats.many)
-          (omega arith) (returns_start 64 c.args.rows.now g.who g.other g.gone c.args.seats c.requires),
-    )
-
-pub overflow_sub-at : goal.overflow_sub-at
-overflow_sub-at c = omega (arith, c.loop-back-test.true)
-
-pub bounds-who-at : goal.bounds-who-at
-bounds-who-at c = let e = entries (goal.at.bounds-who-at c).At-loop-back c.loop-back-test.true in omega arith
-
-pub overflow_cast-v : goal.overflow_cast-v
-overflow_cast-v c = let e = entries (goal.at.overflow_cast-v c).At-loop-back c.loop-back-test.true in omega arith
-
-pub bounds-other-at : goal.bounds-other-at
-bounds-other-at c = let e = entries (goal.at.bounds-other-at c).At-loop-back c.loop-back-test.true in omega arith
-
-pub overflow_cast-u : goal.overflow_cast-u
-overflow_cast-u c = let e = entries (goal.at.overflow_cast-u c).At-loop-back c.loop-back-test.true in omega arith
+    let i = length c.next.new.self.iter.rest.now in
+    let h = c.loop-goes.seats in
+    let w = subst (λ (g : Goes). Seat a.rows.now g h j) (next c).is s in
+    let b = inside c in
+    (w, omega (arith, b.3, b.2, (seat_is 64 a.rows.now a.s.went a.s.gone a.seats c.requires i h (back c) j w).0))
 
 pub seat-j-requires : goal.seat-j-requires
-seat-j-requires c = let e = entries (goal.at.seat-j-requires c).At-loop-back c.loop-back-test.true in (e.0, omega arith, omega arith)
+seat-j-requires c = let i = inside (goal.at.seat-j-requires c).In-Some in (i.0, omega arith, omega arith)
 
-pub overflow_cast-group : goal.overflow_cast-group
-overflow_cast-group c = let f = found (goal.at.overflow_cast-group c).At-loop-back c.loop-back-test.true c.seat-j.result c.seat-j.ensures in omega arith
+pub join-requires : goal.join-requires
+join-requires c =
+    let p = (goal.at.join-requires c).In-Some in
+    let i = inside p in
+    (omega arith, (found p c.seat-j.result c.seat-j.ensures).1)
 
-pub bounds-group-v : goal.bounds-group-v
-bounds-group-v c = let e = entries (goal.at.bounds-group-v c).At-loop-back c.loop-back-test.true in omega arith
+pub overflow_add-j : goal.overflow_add-j
+overflow_add-j c = let b = found (goal.at.overflow_add-j c).In-Some c.seat-j.result c.seat-j.ensures in omega arith
 
-pub offset_bounds-sets-j : goal.offset_bounds-sets-j
-offset_bounds-sets-j c = let f = found (goal.at.offset_bounds-sets-j c).At-loop-back c.loop-back-test.true c.seat-j.result c.seat-j.ensures in omega arith
-
-pub bounds-sets-j : goal.bounds-sets-j
-bounds-sets-j c = (found (goal.at.bounds-sets-j c).At-loop-back c.loop-back-test.true c.seat-j.result c.seat-j.ensures).1
-
-pub with-members-requires : goal.with-members-requires
-with-members-requires c = let e = entries (goal.at.with-members-requires c).At-loop-back c.loop-back-test.true in omega arith
-
-pub offset_bounds-sets-j-in-loop-back : goal.offset_bounds-sets-j-in-loop-back
-offset_bounds-sets-j-in-loop-back c = let f = found (goal.at.offset_bounds-sets-j-in-loop-back c).At-loop-back c.loop-back-test.true c.seat-j.result c.seat-j.ensures in omega arith
-
-pub bounds-sets-j-in-loop-back : goal.bounds-sets-j-in-loop-back
-bounds-sets-j-in-loop-back c = (found (goal.at.bounds-sets-j-in-loop-back c).At-loop-back c.loop-back-test.true c.seat-j.result c.seat-j.ensures).1
-
-pub more-many-requires : goal.more-many-requires
-more-many-requires c = (found (goal.at.more-many-requires c).At-loop-back c.loop-back-test.true c.seat-j.result c.seat-j.ensures).1
-
-pub loop-back-smaller : goal.loop-back-smaller
-loop-back-smaller c = let t = c.loop-back-test.true in omega arith
-
-pub loop-back-preserved : goal.loop-back-preserved
-loop-back-preserved c =
+pub loop-goes-preserved : goal.loop-goes-preserved
+loop-goes-preserved c =
     let a = c.args in
-    let l = c.loop-back in
-    let t = c.loop-back-test.true in
-    let i = a.s.gone - (l.back + 1) in (
-      omega (arith, t),
-      returns_next 64 a.rows.now a.s.who a.s.other a.s.gone a.seats c.requires i l.group l.sets l.many (waiting (goal.at.loop-back-preserved c).At-loop-back c.loop-back-test.true)
-          c.seat-j.result
-          c.more-many.result c.with-members.result c.seat-j.ensures c.more-many.ensures c.with-members.ensures,
-    )
+    let p = (goal.at.loop-goes-preserved c).In-Some in
+    let q = next p in
+    let i = length c.next.new.self.iter.rest.now in
+    let j = c.seat-j.result in
+    let h = c.join.new.self in
+    record {
+      first = q.before;
+      back = rw c.max.ensures (returns_next 64 a.rows.now a.s.went a.s.gone a.seats c.requires i c.loop-goes.seats (back p) j h (found p j c.seat-j.ensures).0
+          (subst (λ (g : Goes). Joined g.who j c.loop-goes.seats h) q.is c.join.ensures));
+    }
 
 pub returns : goal.returns
 returns c =
     let a = c.args in
-    let l = c.loop-back in
-    returns_end 64 a.rows.now a.s.who a.s.other a.s.gone a.seats c.requires l.group l.sets l.many
-    (subst (λ (i : ℕ). Returns 64 a.rows.now a.s.who a.s.other a.s.gone a.seats i l.group l.sets l.many)
-    (omega (arith, l.invariant.0, c.loop-back-test.false)) l.invariant.1)
+    let h = c.loop-goes.seats in
+    returns_end 64 a.rows.now a.s.went a.s.gone a.seats c.requires h
+    (subst (λ (i : ℕ). Returns 64 a.rows.now a.s.went a.s.gone a.seats i h) c.in-None.ensures.steps.0 c.loop-goes.invariant.back)

@@ -1,66 +1,51 @@
--- `restoring::seated` meets its contract: who is not left is in its group, and i are gone through. Assumes nothing.
-use mathlib.Core.Path.{refl}
-use Prim.Native.Nat.{◌<◌}
+-- `restoring::seated` meets its contract: who is not left is in its group. Assumes nothing.
+use mathlib.Core.Path.{◌≡◌, refl, ◌∙◌, subst}
+use Prim.Native.Nat.{ℕ, ◌<◌}
 use native.Mathlib.Omega.{arith}
-use lib.ListN.{get_or}
-use Rattle.graphs.proofs.LoopLaws.{size_le, left_falls}
-use Rattle.restoring.proofs.TurnLaws.{turn_few}
+use lib.ListN.{length-take}
+use lib.Seq.{get_or-take}
+use Rattle.clashes.specs.Divisions.{at}
+use Rattle.graphs.proofs.LoopLaws.{size_le}
+use Rattle.restoring.proofs.TurnLaws.{turned_some}
 use Rattle.restoring.proofs.SeatLaws.{sitting_start, sitting_next, sitting_end}
+use Rattle.restoring.specs.Seats.{Joined}
 use Rattle.restoring.proofs.seated.Goals as goal
-use Rattle.restoring.proofs.seated.Goals.{After-rest-left}
+use Rattle.restoring.proofs.seated.Goals.{After-from}
 
--- fewer than the members are gone through, so the next has a group
-few : (c : After-rest-left)
-    → let i = c.loop-left.i in
-    (i < 64) × (get_or c.args.c i 0 < 64)
-few c =
-    let l = c.loop-left in
-    let low = c.lowest-w in
-    let b = turn_few 64 c.args.present l.left l.i low.result l.invariant.turned low.ensures in
-    (omega (arith, b, size_le 64 c.args.present), c.requires l.i b)
+-- the colour of who has its turn
+own : (c : After-from) → (c.from.result ≡ at c.args.c c.loop-colour.colour-index) × (c.from.result < 64)
+own c =
+    let i = c.loop-colour.colour-index in
+    let b : i < c.size.result = omega (arith, length-take {A = ℕ}) in
+    let e : c.from.result ≡ at c.args.c i = c.from.ensures ∙ get_or-take c.size.result c.args.c i 0 b in
+    (e, omega (arith, e, c.requires i (omega (arith, c.size.ensures))))
 
-pub loop-left-init : goal.loop-left-init
-loop-left-init c = sitting_start 64 c.args.present c.args.c _ refl refl
+pub slice_bounds-c-end : goal.slice_bounds-c-end
+slice_bounds-c-end c = omega (arith, c.size.ensures, size_le 64 c.args.present)
 
-pub bounds-c-i : goal.bounds-c-i
-bounds-c-i c = (few c).0
+pub slice_bounds-colour-items-end : goal.slice_bounds-colour-items-end
+slice_bounds-colour-items-end c = omega (arith, length-take {A = ℕ}, c.size.ensures, size_le 64 c.args.present)
 
-pub overflow_cast-j : goal.overflow_cast-j
-overflow_cast-j c = omega (arith, (few c).1)
+pub loop-colour-init : goal.loop-colour-init
+loop-colour-init c = sitting_start 64 c.args.present c.args.c c.args.many _ refl refl
 
-pub offset_bounds-sets-j : goal.offset_bounds-sets-j
-offset_bounds-sets-j c = omega (arith, (few c).1)
+pub lowest-requires : goal.lowest-requires
+lowest-requires c = let l = c.loop-colour in turned_some 64 c.args.present l.left l.colour-index l.invariant.turned (omega (arith, length-take {A = ℕ}, c.size.ensures))
 
-pub bounds-sets-j : goal.bounds-sets-j
-bounds-sets-j c = (few c).1
+pub join-requires : goal.join-requires
+join-requires c = (c.lowest.ensures.below, (own (goal.at.join-requires c).After-from).1)
 
-pub offset_bounds-sets-j-in-loop-left : goal.offset_bounds-sets-j-in-loop-left
-offset_bounds-sets-j-in-loop-left c = omega (arith, (few (goal.at.offset_bounds-sets-j-in-loop-left c).After-rest-left).1)
-
-pub bounds-sets-j-in-loop-left : goal.bounds-sets-j-in-loop-left
-bounds-sets-j-in-loop-left c = (few (goal.at.bounds-sets-j-in-loop-left c).After-rest-left).1
-
-pub overflow_add-i : goal.overflow_add-i
-overflow_add-i c = omega (arith, (few (goal.at.overflow_add-i c).After-rest-left).0)
-
-pub loop-left-smaller : goal.loop-left-smaller
-loop-left-smaller c =
-    let l = c.loop-left in
-    let low = c.lowest-w in
-    let r = c.rest-left in
-    left_falls l.left low.result r.result low.ensures (r.ensures low.result low.ensures)
-
-pub loop-left-preserved : goal.loop-left-preserved
-loop-left-preserved c =
+pub loop-colour-preserved : goal.loop-colour-preserved
+loop-colour-preserved c =
     let a = c.args in
-    let l = c.loop-left in
-    let low = c.lowest-w in
-    let r = c.rest-left in
-    sitting_next 64 a.present a.c l.group l.sets l.left l.i low.result r.result c.with-members.result l.invariant low.ensures
-    (r.ensures low.result low.ensures) (few (goal.at.loop-left-preserved c).After-rest-left).1 c.with-members.ensures
+    let l = c.loop-colour in
+    let low = c.lowest in
+    let o = own (goal.at.loop-colour-preserved c).After-from in
+    sitting_next 64 a.present a.c a.many l.seats c.join.new.self l.left l.colour-index low.result c.rest-left.result l.invariant low.ensures (c.rest-left.ensures low.result low.ensures)
+    (omega (arith, o.0, o.1)) (subst (λ (j : ℕ). Joined low.result j l.seats c.join.new.self) o.0 c.join.ensures)
 
 pub returns : goal.returns
 returns c =
     let a = c.args in
-    let l = c.loop-left in
-    sitting_end 64 a.present a.c l.group l.sets l.left l.i a.many l.invariant c.loop-left-test.false
+    let l = c.loop-colour in
+    sitting_end 64 a.present a.c a.many l.seats l.left l.colour-index l.invariant (omega (arith, length-take {A = ℕ}, c.size.ensures, size_le 64 a.present)) (omega arith)

@@ -16,23 +16,23 @@ stepped c =
     let s = c.args.colours.now in
     let b = c.loop-i in
     let l = c.loop-i-test.true in
-    let g = c.wide-g.ensures in
+    let g = c.from-g.ensures in
     elim c.if-g-used.branch [
-      | then-g-used w ↦ (omega arith, rw w.used-is (sym (number_new s b.used b.i _ l g w.if-g-used.true) ∙ b.invariant.2))
-      | else-g-used w ↦ (omega arith, rw w.used-is (sym (number_old s b.used b.i _ l g c.if-used-g.false w.if-g-used.false) ∙ b.invariant.2))
+      | then-g-used w ↦ (omega arith, rw w.used-is (sym (number_new s b.used b.i _ l g w.if-g-used.true) ∙ b.invariant.1))
+      | else-g-used w ↦ (omega arith, rw w.used-is (sym (number_old s b.used b.i _ l g c.if-used-g.false w.if-g-used.false) ∙ b.invariant.1))
     ]
 
 pub loop-i-init : goal.loop-i-init
-loop-i-init c = (omega arith, omega arith, refl)
+loop-i-init c = (omega arith, refl)
 
 pub returns-then-used-g : goal.returns-then-used-g
 returns-then-used-g c =
     sym (number_wrong c.args.colours.now c.loop-i.used
-    c.loop-i.i _ c.loop-i-test.true c.wide-g.ensures c.if-used-g.true)
-    ∙ c.loop-i.invariant.2
+    c.loop-i.i _ c.loop-i-test.true c.from-g.ensures c.if-used-g.true)
+    ∙ c.loop-i.invariant.1
 
 pub loop-i-preserved : goal.loop-i-preserved
-loop-i-preserved c = let t = stepped c in (omega arith, t.0, t.1)
+loop-i-preserved c = stepped c
 
 pub returns : goal.returns
-returns c = sym (number_end c.args.colours.now c.loop-i.used c.loop-i.i c.loop-i-test.false) ∙ c.loop-i.invariant.2
+returns c = sym (number_end c.args.colours.now c.loop-i.used c.loop-i.i c.loop-i-test.false) ∙ c.loop-i.invariant.1

@@ -1,32 +1,17 @@
--- `sheet_texts::size_of` meets its contract: what was counted and what is left make the whole. Assumes nothing.
-use Prim.Native.Nat.{◌≤◌, ◌+◌}
-use mathlib.Core.Path.{◌≡◌, ap}
-use lib.ListN.{length, drop}
-use native.Mathlib.Omega.{arith}
-use Rattle.sheet_texts.specs.Sheet.{members_of}
-use Rattle.sheet_texts.proofs.Members.{member_yes, member_no, member_end}
+-- `sheet_texts::size_of` meets its contract: the bytes that pass are those of the group's members. Assumes nothing.
+use Rattle.std.proofs.Common.{◌≡◌, eqb, length, sym, ◌∙◌, arith, rules, tests}
+use Rattle.std.specs.Prelude.{filter}
+use Rattle.std.proofs.lemmas.Iterator.{YieldsList-from_slice}
+use Rattle.std.proofs.lemmas.Iterator.Consumers.{YieldsList-from_filter, count_from_yields_List}
+use Rattle.sheet_texts.proofs.Members.{members_le, members_count}
 use Rattle.sheet_texts.proofs.size_of.Goals as goal
-use Rattle.sheet_texts.proofs.size_of.Goals.{Joined-wide-g, then-wide-g, else-wide-g}
-
-stepped : (c : Joined-wide-g) →
-    let a = c.args in
-    let i = c.loop-i.i in
-    (c.if-wide-g.size ≤ i + 1) × (c.if-wide-g.size + length (members_of (drop (i + 1) a.colours.now) (i + 1) a.g) ≡ length (members_of a.colours.now 0 a.g))
-stepped c =
-    let a = c.args in
-    let b = c.loop-i in
-    let l = c.loop-i-test.true in
-    let x = c.wide.ensures in
-    elim c.if-wide-g.branch [
-      | then-wide-g w ↦ (omega arith, omega (arith, ap length (member_yes a.colours.now b.i a.g _ l x w.if-wide-g.true), b.invariant.2))
-      | else-wide-g w ↦ (omega arith, omega (arith, ap length (member_no a.colours.now b.i a.g _ l x w.if-wide-g.false), b.invariant.2))
-    ]
-
-pub loop-i-init : goal.loop-i-init
-loop-i-init c = (omega arith, omega arith, omega arith)
-
-pub loop-i-preserved : goal.loop-i-preserved
-loop-i-preserved c = let t = stepped c in (omega arith, t.0, t.1)
 
 pub returns : goal.returns
-returns c = (omega (arith, ap length (member_end c.args.colours.now c.loop-i.i c.args.g c.loop-i-test.false), c.loop-i.invariant.2), omega arith)
+returns c =
+    let s = c.args.colours.now in
+    let g = c.args.g in
+    let n : c.count.result ≡ length (filter (λ x. eqb x g) s) =
+    count_from_yields_List c.filter.result _ c.count.ensures.ran
+    (YieldsList-from_filter _ (λ x. eqb x g) (YieldsList-from_slice s cc) c.filter.ensures.closure (λ x r q k. search (rules, tests))) in
+    let e = n ∙ sym (members_count s 0 g) in
+    (e, omega (arith, members_le s 0 g))

@@ -1,6 +1,4 @@
-use Prim.Native.Nat.{◌≤◌, ◌+◌, ◌-◌}
-use mathlib.Core.Path.{◌≡◌}
-use lib.ListN.{length, drop}
+use Rattle.std.specs.Prelude.{◌≡◌, ◌≤◌, ◌+◌, ◌-◌, length, drop, IfSome}
 use Rattle.sets.specs.Set.{has}
 use Rattle.clashes.specs.Matrix.{matrix}
 use Rattle.lines.specs.Text.{lines_of}
@@ -11,7 +9,7 @@ use Rattle.sheets.proofs.check_lines.Given as goal
 
 abbrev pub invariant-loop-at : goal.invariant-loop-at
 invariant-loop-at l =
-    (l.at ≤ length l.sheet) × (length l.sheet ≤ longest_text) × (l.line ≤ l.at + 1) × (length l.colours ≡ most_entries) × Sound l.p × Within l.n l.mates
+    (l.at ≤ length l.sheet) × (length l.sheet ≤ longest_text) × (l.line ≤ l.at + 1) × (length l.colours ≡ most_entries) × IfSome l.p Sound × Within l.n l.mates
     × (check_from (lines_of (drop l.at l.sheet)) l.n (matrix l.rows) l.line l.p (has l.mates) (has l.earlier) l.colours
     ≡ check_from (lines_of l.sheet) l.n (matrix l.rows) 1 start none none no_colours)
 

@@ -2,8 +2,8 @@
 use borrow.Author.Tests.{lt-ltb, le-ltb}
 use Rattle.steps.proofs.counted.Goals as goal
 
-pub returns-then-t : goal.returns-then-t
-returns-then-t c = simp (lt-ltb _ _ c.if-t.true)
+pub returns-then-s : goal.returns-then-s
+returns-then-s c = simp (lt-ltb _ _ c.if-s.true)
 
-pub returns-else-t : goal.returns-else-t
-returns-else-t c = simp (le-ltb _ _ c.if-t.false)
+pub returns : goal.returns
+returns c = simp (le-ltb _ _ c.if-s.false)

@@ -6,6 +6,6 @@ use Rattle.trials_lists.proofs.trial.Goals as goal
 pub put_list-requires : goal.put_list-requires
 put_list-requires g c =
     let a = c.args in
-    let fits : c.in-Read.n ≤ length a.lent.now =
-    subst (Bounded (length a.lent.now)) (sym c.read_list.ensures.answer ∙ c.in-Read.is) (read_fits a.plain a.text.now (length a.lent.now)) in
+    let fits : c.in-Ok.n ≤ length a.lent.now =
+    subst (Bounded (length a.lent.now)) (sym c.read_list.ensures.answer ∙ c.in-Ok.is) (read_fits a.plain a.text.now (length a.lent.now)) in
     omega (arith, fits)

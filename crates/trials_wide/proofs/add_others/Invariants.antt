@@ -1,5 +1,4 @@
 use mathlib.Core.Path.{◌≡◌}
-use Prim.Native.Nat.{◌≤◌, ◌-◌}
 use lib.ListN.{length}
 use Rattle.clashes.specs.Matrix.{Valid, matrix}
 use Rattle.wide.specs.Words.{rows_of}
@@ -7,7 +6,8 @@ use Rattle.trials_wide.proofs.add_others.Given as goal
 
 abbrev pub invariant-loop-u : goal.invariant-loop-u
 invariant-loop-u l =
-    (l.u ≤ l.n) × (length l.rows ≡ 1024) × (Valid l.n (matrix (rows_of 4 256 l.initial.rows)) → Valid l.n (matrix (rows_of 4 256 l.rows)))
+    (length l.rows ≡ 1024) × (Valid l.n (matrix (rows_of 4 256 l.initial.rows)) → Valid l.n (matrix (rows_of 4 256 l.rows)))
 
-abbrev pub decreases-loop-u : goal.decreases-loop-u
-decreases-loop-u l = l.n - l.u
+abbrev pub invariant-loop-v : goal.invariant-loop-v
+invariant-loop-v l =
+    (length l.rows ≡ 1024) × (Valid l.n (matrix (rows_of 4 256 l.initial.rows)) → Valid l.n (matrix (rows_of 4 256 l.rows)))

@@ -5,9 +5,9 @@ use Rattle.clashes.specs.Matrix.{Valid, matrix}
 use Rattle.wide.specs.Words.{rows_of}
 use Rattle.trials_wide.proofs.add_pairs.Given as goal
 
-abbrev pub invariant-loop-at : goal.invariant-loop-at
-invariant-loop-at l =
+abbrev pub invariant-loop-line : goal.invariant-loop-line
+invariant-loop-line l =
     (l.at-2 ≤ l.at) × (l.at ≤ length l.file) × (length l.rows ≡ 1024) × (Valid l.n (matrix (rows_of 4 256 l.initial.rows)) → Valid l.n (matrix (rows_of 4 256 l.rows)))
 
-abbrev pub decreases-loop-at : goal.decreases-loop-at
-decreases-loop-at l = length l.file - l.at
+abbrev pub decreases-loop-line : goal.decreases-loop-line
+decreases-loop-line l = length l.file - l.at

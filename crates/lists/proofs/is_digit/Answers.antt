@@ -1,9 +1,0 @@
--- `lists::is_digit` meets its contract. Assumes nothing.
-use borrow.Author.Tests.{le-leb, lt-leb}
-use Rattle.lists.proofs.is_digit.Goals as goal
-
-pub returns-then-b-lt48 : goal.returns-then-b-lt48
-returns-then-b-lt48 c = simp (lt-leb _ _ c.if-b-lt48.true)
-
-pub returns : goal.returns
-returns c = simp (le-leb _ _ c.if-b-lt48.false)

@@ -1,9 +1,0 @@
--- `mending::unended` meets its contract: 37 or 30. Assumes nothing.
-use mathlib.Core.Path.{◌∙◌, sym}
-use Rattle.mending.proofs.unended.Goals as goal
-
-pub returns-then-met : goal.returns-then-met
-returns-then-met c = rw (sym c.met.ensures ∙ c.if-met.true)
-
-pub returns : goal.returns
-returns c = rw (sym c.met.ensures ∙ c.if-met.false)

@@ -1,2 +1,0 @@
--- A clique on the way, in four words.
-pub mod Wide

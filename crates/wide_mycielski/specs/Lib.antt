@@ -1,2 +1,0 @@
--- H in rows of four words.
-pub mod Wide
