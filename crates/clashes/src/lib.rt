@@ -71,13 +71,16 @@ pub fn validity(rows: &[u64]) -> Result<(), Invalid>
         return Err(Invalid::Many);
     }
     let few = Few { rows };
-    if let Some(row) = few.first_stray() {
+    let stray = few.first_stray();
+    let itself = few.first_itself();
+    let one_sided = few.first_one_sided();
+    if let Some(row) = stray {
         return Err(Invalid::Stray(row));
     }
-    if let Some(row) = few.first_itself() {
+    if let Some(row) = itself {
         return Err(Invalid::Itself(row));
     }
-    if let Some(row) = few.first_one_sided() {
+    if let Some(row) = one_sided {
         return Err(Invalid::OneSided(row));
     }
     Ok(())

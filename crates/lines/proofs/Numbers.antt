@@ -55,6 +55,39 @@ digits_are (b ∷ s) i = go (digit b) refl (digits_are s) i
     go true e r (suc i) h = r i (le_of_suc-le-suc h)
     go false e r i h = absurd (not-suc-le-zero h)
 
+-- of the first n bytes: digits that end before n are all that stand at the front
+digits_within : (n : ℕ) (s : List ℕ) → length (digits (take n s)) < n → digits (take n s) ≡ digits s
+digits_within zero s h = absurd (not-suc-le-zero h)
+digits_within (suc n) [] h = refl
+digits_within (suc n) (b ∷ s) h = go (digit b) (digits_within n s) h
+  where
+    go : (x : Bool) → (length (digits (take n s)) < n → digits (take n s) ≡ digits s) → length (cond x (b ∷ digits (take n s)) []) < suc n
+        → cond x (b ∷ digits (take n s)) [] ≡ cond x (b ∷ digits s) []
+    go true r h = ap (λ (l : List ℕ). b ∷ l) (r (le_of_suc-le-suc h))
+    go false r h = refl
+
+-- and n of them are no more than stand there
+digits_reach : (n : ℕ) (s : List ℕ) → n ≤ length (digits (take n s)) → n ≤ length (digits s)
+digits_reach zero s h = zero-le
+digits_reach (suc n) [] h = h
+digits_reach (suc n) (b ∷ s) h = go (digit b) (digits_reach n s) h
+  where
+    go : (x : Bool) → (n ≤ length (digits (take n s)) → n ≤ length (digits s)) → suc n ≤ length (cond x (b ∷ digits (take n s)) [])
+        → suc n ≤ length (cond x (b ∷ digits s) [])
+    go true r h = suc-le-suc (r (le_of_suc-le-suc h))
+    go false r h = h
+
+-- k of the first 8 bytes pass as digits: where k is at most 7, all that stand at the front; else at least 8 do
+module _ (s : List ℕ) (k : ℕ) (e : k ≡ length (take_while is_ascii_digit (take 8 s))) where
+  counted : k ≡ length (digits (take 8 s))
+  counted = e ∙ ap length (digits_while (take 8 s))
+
+  pub digits_few : k ≤ 7 → k ≡ length (take_while is_ascii_digit s)
+  digits_few h = counted ∙ ap length (digits_within 8 s (omega (arith, counted))) ∙ sym (ap length (digits_while s))
+
+  pub digits_many : 7 < k → 7 < length (digits s)
+  digits_many h = digits_reach 8 s (omega (arith, counted))
+
 -- k bytes that pass as digits, at the front
 module _ (s : List ℕ) (k : ℕ) (e : k ≡ length (take_while is_ascii_digit s)) where
   pub digits_count : length (digits s) ≡ k

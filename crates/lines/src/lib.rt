@@ -3,7 +3,7 @@
 // digits and no leading zero. The writers put bytes from a place on and return the place after them; all others stay.
 #![tactic(auto)]
 
-ghost use Rattle.std.specs.Prelude.{◌≡◌, ◌+◌, ◌<◌, ◌≤◌, not, ltb, nat_eq, length, position, take_while};
+ghost use Rattle.std.specs.Prelude.{◌≡◌, ◌+◌, ◌<◌, ◌≤◌, not, ltb, nat_eq, length, position, take, take_while};
 ghost use Rattle.std.specs.Char.{is_ascii_digit};
 ghost use Rattle.lines.specs.Text.{line_end_lem, next_start_lem, place_of};
 ghost use Rattle.lines.specs.Part.{PartOf, LineOf};
@@ -96,11 +96,11 @@ pub fn place(s: &[u8], k: usize) -> usize
     at
 }
 
-// How many digits stand at the front of `s`.
+// How many digits stand at the front of the first 8 bytes of `s`: no number has so many, and a longer run is not gone through.
 fn digits_of(s: &[u8]) -> usize
-    ensures { result ≡ length (take_while is_ascii_digit s.now) }
+    ensures { result ≡ length (take_while is_ascii_digit (take 8 s.now)) }
 {
-    s.iter().take_while(|b| b.is_ascii_digit()).count()
+    s.iter().take(8).take_while(|b| b.is_ascii_digit()).count()
 }
 
 // The number at the front of `s`, and how many bytes it takes.

@@ -45,9 +45,11 @@ fn unread(stderr: &impl Print, name: &[u8], why: io::Error) -> NoFile {
     let text = InlineText::<256>::of(why);
     let words = text.as_str();
     let end = words.find(" (os error ").unwrap_or(words.len());
-    let _ = print!(stderr; "mend: ");
+    say(stderr, b"mend: ");
     say(stderr, name);
-    let _ = println!(stderr; ": {}", &words[..end]);
+    say(stderr, b": ");
+    say(stderr, &words.as_bytes()[..end]);
+    say(stderr, b"\n");
     NoFile
 }
 
@@ -123,19 +125,28 @@ fn mend_sheet(list: &[u8], sheet: &[u8], out: &mut [u8], plain: bool) -> Result<
     }
 }
 
-// Which text is at fault, and its line, by its number, on standard error. 18 has none.
-fn blame(stderr: &impl Print, which: &str, line: usize, text: &[u8]) {
+// Which text is at fault, and its line, by its number, on standard error. 18 has none. Each piece is told by itself, so that what a stream takes of it does
+// not depend on whether there is room for the rest.
+fn blame(stderr: &impl Print, which: &[u8], line: usize, text: &[u8]) {
+    say(stderr, which);
     if line == 0 {
-        let _ = println!(stderr; "mend: the {which} has more than 65,536 bytes");
+        say(stderr, b" has more than 65,536 bytes\n");
         return;
     }
-    let _ = print!(stderr; "mend: the {which} is at fault, line {line}:\n    ");
+    say(stderr, b" is at fault, line ");
+    let _ = stderr.print(line);
+    say(stderr, b":\n    ");
     say(stderr, lines::line_no(text, line - 1));
     say(stderr, b"\n");
 }
 
 fn blame_list(stderr: &impl Print, why: lists::Unread, list: &[u8]) {
-    blame(stderr, "list", Refusal::from(why.why).line(why.line), list);
+    blame(
+        stderr,
+        b"mend: the list",
+        Refusal::from(why.why).line(why.line),
+        list,
+    );
 }
 
 // Both texts are there.
@@ -148,7 +159,7 @@ fn mended(rt: &impl Print, stderr: &impl Print, list: &[u8], sheet: &[u8], plain
         Err(Unmended::OfSheet(why)) => {
             blame(
                 stderr,
-                "sheet",
+                b"mend: the sheet",
                 Refusal::from(why.why).line(why.line),
                 sheet,
             );
@@ -162,7 +173,7 @@ fn long_list(rt: &impl Print, stderr: &impl Print) {
     let mut out = [0u8; 64];
     let written = sittings::answer_long(&mut out);
     programs::print(rt, written, &out);
-    blame(stderr, "list", 0, b"");
+    blame(stderr, b"mend: the list", 0, b"");
 }
 
 // The sheet is too long: only the list's own refusals come before that.
@@ -172,7 +183,7 @@ fn long_sheet(rt: &impl Print, stderr: &impl Print, list: &[u8], plain: bool) {
     programs::print(rt, written, &out);
     match mend_sheet(list, b"", &mut out, plain) {
         Err(Unmended::OfList(why)) => blame_list(stderr, why, list),
-        _ => blame(stderr, "sheet", 0, b""),
+        _ => blame(stderr, b"mend: the sheet", 0, b""),
     }
 }
 

@@ -20,7 +20,8 @@ ghost use Rattle.mending.specs.Calls.{GoneAs, WholeAs, mended_of, Answered};
 
 mod groups;
 
-use groups::{Groups, Numbered, admits};
+use groups::admits;
+pub use groups::{Groups, Numbered};
 use lists::Gathered;
 use mends::{Counts, Step, Unmended};
 use sheets::{Refused, SheetFault};

@@ -7,11 +7,18 @@ ghost use Rattle.graphs.specs.Held.{view, Held, HoldsAt, EachAt};
 ghost use Rattle.cliques.specs.Clique.{clique};
 ghost use Rattle.cliques.specs.Growth.{IsSetOf, Within};
 ghost use Rattle.mycielski.specs.Rounds.{every_edge, near_all, of_w_lem, extend, mycielskian};
-ghost use Rattle.mycielski.specs.Words.{Sub, sub, part_of, Among, reachable, Serves, ServesAll, Ties, LacksAt, Outside, Climbs};
+ghost use Rattle.mycielski.specs.Words.{sub, part_of, Among, reachable, Serves, ServesAll, Ties, LacksAt, Outside, Climbs};
 
 use cliques::clique_among;
 use graphs::Node;
 use wide::Bits;
+
+// H: its vertices, and for each the vertices that an edge of H joins it to, in rows of N numbers.
+#[derive(Clone, Copy)]
+pub struct Sub<S, const N: usize> {
+    pub set: S,
+    pub near: [u64; N],
+}
 
 // The live vertices that are not adjacent to some member of a set, and those that are not adjacent to two.
 #[derive(Clone, Copy)]
@@ -20,8 +27,9 @@ pub struct Lack<S> {
     pub twice: S,
 }
 
-// Rows that have no edge get every edge between two members of the clique c.
-pub fn whole<S: Bits>(c: S, near: &mut [u64])
+// Rows that have no edge get every edge between two members of the clique c. This and its kin (`fill_..`) write into lent rows: those of four words take
+// 8 KiB, and `climb` keeps each in one place.
+fn fill_whole<S: Bits>(c: S, near: &mut [u64])
     requires { near.old ≡ replicate S.lent zero }
     ensures near_len { length near.new ≡ S.lent }
     ensures near_after { part_of (sub (S.as_num c) (S.as_rows near.new)) ≡ every_edge (has (S.as_num c)) }
@@ -32,6 +40,18 @@ pub fn whole<S: Bits>(c: S, near: &mut [u64])
         c.without(v).put(near, v);
         left = left.rest();
     }
+}
+
+// The clique c, with every edge between two of its members.
+pub fn whole<S: Bits, const N: usize>(c: S) -> Sub<S, N>
+    requires room { N ≡ S.lent }
+    ensures vertices { result.set ≡ c }
+    ensures near_len { length result.near ≡ S.lent }
+    ensures edges { part_of (sub (S.as_num result.set) (S.as_rows result.near)) ≡ every_edge (has (S.as_num c)) }
+{
+    let mut near = [0u64; N];
+    fill_whole(c, &mut near);
+    Sub { set: c, near: near }
 }
 
 // S(v), where `near` has the H-neighbours of v: the live vertices that are adjacent to all of them.
@@ -156,7 +176,7 @@ pub fn witnesses<S: Bits>(live: S, rows: &[u64], set: S, near: &[u64]) -> S
 }
 
 // `fit` gets S(v) of each v in H.
-pub fn servings<S: Bits>(live: S, rows: &[u64], set: S, near: &[u64], fit: &mut [u64])
+fn fill_servings<S: Bits>(live: S, rows: &[u64], set: S, near: &[u64], fit: &mut [u64])
     requires rows_len { (length rows.now ≡ S.lent) × (length near.now ≡ S.lent) }
     requires fit_len { length fit.old ≡ S.lent }
     requires among { Among (S.as_num live) (sub (S.as_num set) (S.as_rows near.now)) }
@@ -171,8 +191,21 @@ pub fn servings<S: Bits>(live: S, rows: &[u64], set: S, near: &[u64], fit: &mut 
     }
 }
 
-// The same where H is the set c with every edge, by who lacks one member of c, and who two.
-pub fn first_servings<S: Bits>(live: S, rows: &[u64], c: S, fit: &mut [u64])
+// S(v) of each v in H.
+pub fn servings<S: Bits, const N: usize>(live: S, rows: &[u64], set: S, near: &[u64]) -> [u64; N]
+    requires room { N ≡ S.lent }
+    requires rows_len { (length rows.now ≡ S.lent) × (length near.now ≡ S.lent) }
+    requires among { Among (S.as_num live) (sub (S.as_num set) (S.as_rows near.now)) }
+    ensures fit_len { length result ≡ S.lent }
+    ensures serves { EachAt S.cap (S.as_num live) (S.as_rows rows.now) (λ h. Serves h.n (view h) (sub (S.as_num set) (S.as_rows near.now)) (S.as_rows result)) }
+{
+    let mut fit = [0u64; N];
+    fill_servings(live, rows, set, near, &mut fit);
+    fit
+}
+
+// `fit` gets the same where H is the set c with every edge, by who lacks one member of c, and who two.
+fn fill_first_servings<S: Bits>(live: S, rows: &[u64], c: S, fit: &mut [u64])
     requires rows_len { length rows.now ≡ S.lent }
     requires fit_len { length fit.old ≡ S.lent }
     requires within { Within (S.as_num c) (S.as_num live) }
@@ -189,9 +222,22 @@ pub fn first_servings<S: Bits>(live: S, rows: &[u64], c: S, fit: &mut [u64])
     }
 }
 
+// S(v) of each v in H, where H is the set c with every edge.
+pub fn first_servings<S: Bits, const N: usize>(live: S, rows: &[u64], c: S) -> [u64; N]
+    requires room { N ≡ S.lent }
+    requires rows_len { length rows.now ≡ S.lent }
+    requires within { Within (S.as_num c) (S.as_num live) }
+    ensures fit_len { length result ≡ S.lent }
+    ensures serves { EachAt S.cap (S.as_num live) (S.as_rows rows.now) (λ h. ServesAll h.n (view h) (S.as_num c) (S.as_rows result)) }
+{
+    let mut first = [0u64; N];
+    fill_first_servings(live, rows, c, &mut first);
+    first
+}
+
 // The vertices of H after a round with w of W, where `fit` has S(v): for each v of the old H the lowest member of S(v) that is adjacent to w comes in,
-// tied to w and to v's old H-neighbours.
-pub fn extended<S: Bits>(
+// tied to w and to v's old H-neighbours. Rows that are those of the old H get the edges.
+fn fill_extended<S: Bits>(
     live: S,
     rows: &[u64],
     set: S,
@@ -226,6 +272,34 @@ pub fn extended<S: Bits>(
     next
 }
 
+// H after a round with w of W: for each v of the old H the lowest member of S(v) that is adjacent to w comes in, tied to w and to v's old H-neighbours.
+pub fn extended<S: Bits, const N: usize>(
+    live: S,
+    rows: &[u64],
+    set: S,
+    old: &[u64],
+    w: usize,
+) -> Sub<S, N>
+    requires room { N ≡ S.lent }
+    requires rows_len { length rows.now ≡ S.lent }
+    requires old_len { length old.now ≡ S.lent }
+    requires holds { HoldsAt S.cap (S.as_num live) (S.as_rows rows.now) }
+    requires among { Among (S.as_num live) (sub (S.as_num set) (S.as_rows old.now)) }
+    requires w_bound { w < S.cap }
+    requires each { EachAt S.cap (S.as_num live) (S.as_rows rows.now) (λ h. T (of_w_lem h.n (view h) (part_of (sub (S.as_num set) (S.as_rows old.now))) w)) }
+    ensures near_len { length result.near ≡ S.lent }
+    ensures round { EachAt S.cap (S.as_num live) (S.as_rows rows.now) (λ h. part_of (sub (S.as_num result.set) (S.as_rows result.near)) ≡ extend h.n (view h) (part_of (sub (S.as_num set) (S.as_rows old.now))) w) }
+{
+    let mut near = [0u64; N];
+    near.copy_from_slice(old);
+    let fit = servings::<S, N>(live, rows, set, old);
+    let next = fill_extended(live, rows, set, old, &mut near, w, &fit);
+    Sub {
+        set: next,
+        near: near,
+    }
+}
+
 // The bound from the clique c and W of the first round, or a bound on the way to it that is as great as is enough, by rounds on H. Rows are N numbers.
 pub fn climb<S: Bits, const N: usize>(live: S, rows: &[u64], c: S, ws: S, enough: usize) -> usize
     requires room { N ≡ S.lent }
@@ -240,11 +314,11 @@ pub fn climb<S: Bits, const N: usize>(live: S, rows: &[u64], c: S, ws: S, enough
     let all = live.size();
     let mut b = c.size() + 1;
     let mut near = [0u64; N];
-    whole(c, &mut near);
+    fill_whole(c, &mut near);
     let mut fit = [0u64; N];
-    first_servings(live, rows, c, &mut fit);
+    fill_first_servings(live, rows, c, &mut fit);
     let old = near;
-    let mut set = extended(live, rows, c, &old, &mut near, ws.lowest(), &fit);
+    let mut set = fill_extended(live, rows, c, &old, &mut near, ws.lowest(), &fit);
     while b < enough {
         if all <= set.size() {
             return b;
@@ -256,9 +330,9 @@ pub fn climb<S: Bits, const N: usize>(live: S, rows: &[u64], c: S, ws: S, enough
         if enough <= b + 1 {
             return b + 1;
         }
-        servings(live, rows, set, &near, &mut fit);
+        fill_servings(live, rows, set, &near, &mut fit);
         let old = near;
-        set = extended(live, rows, set, &old, &mut near, ws.lowest(), &fit);
+        set = fill_extended(live, rows, set, &old, &mut near, ws.lowest(), &fit);
         b = b + 1;
     }
     b

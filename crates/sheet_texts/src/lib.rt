@@ -69,10 +69,13 @@ fn number(colours: &[u8]) -> Result<usize, usize>
 fn size_of(colours: &[u8], g: usize) -> usize
     ensures { (result ≡ length (members_of colours.now 0 g)) × (result ≤ length colours.now) }
 {
-    colours
-        .iter()
-        .filter(|&&colour| usize::from(colour) == g)
-        .count()
+    let mut size: usize = 0;
+    for &colour in colours {
+        if usize::from(colour) == g {
+            size += 1;
+        }
+    }
+    size
 }
 
 // Puts the members of group g at `at`, a line each.

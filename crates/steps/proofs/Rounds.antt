@@ -4,7 +4,7 @@ use mathlib.Core.Path.{◌≡◌, ap, ◌∙◌, subst}
 use mathlib.Core.List.{List}
 use mathlib.Core.Option.{some}
 use Prim.Native.Nat.{ℕ, suc, ◌+◌, ◌*◌, ◌<◌}
-use Rattle.std.specs.Prelude.{Option, Some, None}
+use Rattle.std.specs.Prelude.{Result, Ok, Err}
 use lib.ListN.{length}
 use Rattle.sets.specs.Set.{IsWithout}
 use Rattle.wide.specs.Words.{num}
@@ -29,15 +29,15 @@ pub record Apart (R : ℕ → Rule) (words n : ℕ) (live : Set) (l : Lent) (top
   pub left : (l₀ : Lent) (at more : ℕ) → top ≡ at + more → Left words l₀ at more l → Left words l₀ at (more + 1) z
   pub fewer : open_pairs (node_in words n live z) < open_pairs (node_in words n live l)
   pub lives : living (node_in words n live z) ≡ living (node_in words n live l)
-  pub rest : (best : List ℕ) (r : Option State) → Comes n t' best r (within (R n) t'.budget (below n (view (node_in words n live z))) (state_of n z.best t'))
+  pub rest : (best : List ℕ) (r : Result State State) → Comes n t' best r (within (R n) t'.budget (below n (view (node_in words n live z))) (state_of n z.best t'))
       → Comes n t best r (onward (R n) t.budget n (view (node_in words n live l)) a b (state_of n l.best t))
 
 -- the walk below the merged graph came back to t', and the pair is merged back, in y
-pub record Back (R : ℕ → Rule) (words n : ℕ) (live : Set) (l : Lent) (top a b : ℕ) (t : State) (y : Lent) (r : Option State) : Type 0 where
+pub record Back (R : ℕ → Rule) (words n : ℕ) (live : Set) (l : Lent) (top a b : ℕ) (t : State) (y : Lent) (r : Result State State) : Type 0 where
   pub kept : Kept words l top y
-  pub out : r ≡ None → Comes n t y.best None (onward (R n) t.budget n (view (node_in words n live l)) a b (state_of n l.best t))
+  pub out : (t' : State) → r ≡ Err t' → Comes n t y.best (Err t') (onward (R n) t.budget n (view (node_in words n live l)) a b (state_of n l.best t))
   pub room : (a < 64 * words) × (b < 64 * words) × (top < length y.trail)
-  pub apart : (t' : State) → r ≡ Some t' → (rows trail : List ℕ) → Parting words y.rows y.trail top a b rows trail
+  pub apart : (t' : State) → r ≡ Ok t' → (rows trail : List ℕ) → Parting words y.rows y.trail top a b rows trail
       → Apart R words n live l top a b t (lending rows y.names y.best trail) t'
 
 module _ {words n : ℕ} {live : Set} {l : Lent} {top a b : ℕ} {t : State} (e : Enters words n live l top t)
@@ -73,7 +73,7 @@ module _ {words n : ℕ} {live : Set} {l : Lent} {top a b : ℕ} {t : State} (e 
     pub round_falls : suc (living (node_in words n fewer mixed)) ≡ living g
     round_falls = merged_falls (64 * words) g a b e.ready.held c (node_in words n fewer mixed) becomes
 
-    module _ (R : ℕ → Rule) {x : Lent} {r : Option State} (en : Entered words (R n) n fewer mixed top t x r) where
+    module _ (R : ℕ → Rule) {x : Lent} {r : Result State State} (en : Entered words (R n) n fewer mixed top t x r) where
       -- to merge back
       pub round_unmerges : (length x.names ≡ 64 * words) × (a < 64 * words) × (b < 64 * words)
       round_unmerges = (ap length en.kept.stays.names ∙ round_enters.laid.named, round_pair.0, round_pair.1)
@@ -91,21 +91,21 @@ module _ {words n : ℕ} {live : Set} {l : Lent} {top a b : ℕ} {t : State} (e 
         abbrev z : List ℕ → List ℕ → Lent
         z rows trail = lending rows names'' x.best trail
 
-        came : (t' : Option State) → r ≡ t' → Comes n t x.best t' (within (R n) t.budget (below n (view (node_in words n fewer mixed))) (state_of n l.best t))
-        came t' o = subst (λ (s : Option State). Comes n t x.best s (within (R n) t.budget (below n (view (node_in words n fewer mixed))) (state_of n l.best t))) o en.comes
+        came : (t' : Result State State) → r ≡ t' → Comes n t x.best t' (within (R n) t.budget (below n (view (node_in words n fewer mixed))) (state_of n l.best t))
+        came t' o = subst (λ (s : Result State State). Comes n t x.best s (within (R n) t.budget (below n (view (node_in words n fewer mixed))) (state_of n l.best t))) o en.comes
 
-        apart : (t' : State) → r ≡ Some t' → (rows trail : List ℕ) → Parting words rows'' x.trail top a b rows trail
+        apart : (t' : State) → r ≡ Ok t' → (rows trail : List ℕ) → Parting words rows'' x.trail top a b rows trail
             → Apart R words n live l top a b t (lending rows names'' x.best trail) t'
         apart t' o rows trail part = record {
           enters = λ i f. record {
-            ready = separated_ready (64 * words) g a b e.ready.held c R l.best t (node_in words n fewer mixed) becomes x.best t' (came (Some t') o)
+            ready = separated_ready (64 * words) g a b e.ready.held c R l.best t (node_in words n fewer mixed) becomes x.best t' (came (Ok t') o)
                 (node_in words n live (z rows trail)) parted;
             laid = parted_laid words n live l top a b at_g e.laid y again rows trail part i f;
           };
           left = left_parted words n live l top a b at_g e.laid y again rows trail part;
           fewer = separated_falls (64 * words) g a b e.ready.held c (node_in words n live (z rows trail)) parted;
           lives = separated_lives (64 * words) g a b e.ready.held c (node_in words n live (z rows trail)) parted;
-          rest = onward_on (64 * words) g a b e.ready.held c R l.best t (node_in words n fewer mixed) becomes x.best t' (came (Some t') o)
+          rest = onward_on (64 * words) g a b e.ready.held c R l.best t (node_in words n fewer mixed) becomes x.best t' (came (Ok t') o)
               (node_in words n live (z rows trail)) parted;
         }
           where
@@ -115,7 +115,7 @@ module _ {words n : ℕ} {live : Set} {l : Lent} {top a b : ℕ} {t : State} (e 
         pub round_back : Back R words n live l top a b t y r
         round_back = record {
           kept = again;
-          out = λ o. onward_out (64 * words) g a b e.ready.held c R l.best t (node_in words n fewer mixed) becomes x.best (came None o);
+          out = λ t' o. onward_out (64 * words) g a b e.ready.held c R l.best t (node_in words n fewer mixed) becomes x.best t' (came (Err t') o);
           room = (round_pair.0, round_pair.1, trail_room words n live l top a b at_g e.laid y again);
           apart = apart;
         }

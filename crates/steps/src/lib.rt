@@ -16,8 +16,8 @@ use seam::{choose_among, reaches};
 use undo::{Undo, colours, merge, restore, separate, unmerge};
 use wide::{Set, below, size, without};
 
-// A walk on its way: the number of groups of the best division, the nodes entered, the complete graphs met, and the budget of nodes. Where a walk would
-// have to enter more nodes than that there is none.
+// A walk on its way: the number of groups of the best division, the nodes entered, the complete graphs met, and the budget of nodes. A walk answers with
+// the state in which it ended, or, as an error, with the one in which it would have had to enter more nodes than that.
 #[derive(Clone, Copy)]
 pub struct State {
     pub k: usize,
@@ -38,17 +38,17 @@ fn start(n: usize, budget: u64) -> State
     }
 }
 
-// One node more, if the budget has one.
-fn counted(s: State) -> Option<State>
+// One node more, or the state as it is where the budget has no more.
+fn counted(s: State) -> Result<State, State>
     ensures { result ≡ counted_of s }
 {
     if s.nodes < s.budget {
-        return Some(State {
+        return Ok(State {
             nodes: s.nodes + 1,
             ..s
         });
     }
-    None
+    Err(s)
 }
 
 // The groups of a complete graph become the best.
@@ -105,16 +105,16 @@ fn enter(
     trail: &mut [u16],
     at: usize,
     s: State,
-) -> Option<State>
+) -> Result<State, State>
     requires { Enters words n live (lending rows.old names.old best.old trail.old) at s }
     ensures { Entered words (bounded n mycielskian) n live (lending rows.old names.old best.old trail.old) at s (lending rows.new names.new best.new trail.new) result }
 {
     let entered = counted(s)?;
     if reaches(words, live, rows, entered.k) {
-        return Some(entered); // a node that is cut off is counted
+        return Ok(entered); // a node that is cut off is counted
     }
     match choose_among(words, live, rows) {
-        None => Some(improved(n, live, names, best, entered)),
+        None => Ok(improved(n, live, names, best, entered)),
         Some((u, v)) => {
             let mut apart: usize = 0;
             let end = split(
@@ -142,7 +142,7 @@ fn split(
     u: usize,
     v: usize,
     s: State,
-) -> Option<State>
+) -> Result<State, State>
     requires { Splits words n live (lending rows.old names.old best.old trail.old) at more.old u v s }
     ensures { Onward words (bounded n mycielskian) n live (lending rows.old names.old best.old trail.old) at u v s (lending rows.new names.new best.new trail.new) result more.new }
 {
@@ -168,10 +168,10 @@ fn split(
         *more += 1;
         t = counted(t)?;
         if reaches(words, live, rows, t.k) {
-            return Some(t);
+            return Ok(t);
         }
         match choose_among(words, live, rows) {
-            None => return Some(improved(n, live, names, best, t)),
+            None => return Ok(improved(n, live, names, best, t)),
             Some((x, y)) => {
                 a = x;
                 b = y;
@@ -210,22 +210,23 @@ fn explore(
     trail: &mut [u16],
     at: usize,
     s: State,
-) -> Option<State>
+) -> Result<State, State>
     requires { Enters words n live (lending rows.old names.old best.old trail.old) at s }
     ensures { Entered words (plain n) n live (lending rows.old names.old best.old trail.old) at s (lending rows.new names.new best.new trail.new) result }
 {
     let mut t = s;
     let mut more: usize = 0;
     loop {
-        let Some(entered) = counted(t) else {
+        let next = counted(t);
+        let Ok(entered) = next else {
             restore(words, rows, trail, at, more);
-            return None;
+            return next;
         };
         match choose_among(words, live, rows) {
             None => {
                 let met = compared(n, live, names, best, entered);
                 restore(words, rows, trail, at, more);
-                return Some(met);
+                return Ok(met);
             }
             Some((u, v)) => {
                 let d = merge_at(words, live, rows, names, u, v);
@@ -241,9 +242,9 @@ fn explore(
                     entered,
                 );
                 unmerge_at(words, rows, names, u, v, d);
-                let Some(back) = below else {
+                let Ok(back) = below else {
                     restore(words, rows, trail, at, more);
-                    return None;
+                    return below;
                 };
                 t = back;
                 separate_at(words, rows, trail, at + more, u, v);
@@ -289,7 +290,7 @@ pub trait Walk {
         trail: &mut [u16],
         at: usize,
         s: State,
-    ) -> Option<State>
+    ) -> Result<State, State>
         requires { Enters words n live (lending rows.old names.old best.old trail.old) at s }
         ensures { Entered words (rule n) n live (lending rows.old names.old best.old trail.old) at s (lending rows.new names.new best.new trail.new) result };
 }
@@ -310,7 +311,7 @@ impl Walk for Bounded {
         trail: &mut [u16],
         at: usize,
         s: State,
-    ) -> Option<State> {
+    ) -> Result<State, State> {
         enter(words, n, live, rows, names, best, trail, at, s)
     }
 }
@@ -331,7 +332,7 @@ impl Walk for Plain {
         trail: &mut [u16],
         at: usize,
         s: State,
-    ) -> Option<State> {
+    ) -> Result<State, State> {
         explore(words, n, live, rows, names, best, trail, at, s)
     }
 }
@@ -346,7 +347,7 @@ pub fn walk_list<W: Walk>(
     best: &mut [u8],
     trail: &mut [u16],
     budget: u64,
-) -> Option<State>
+) -> Result<State, State>
     requires { Lends words n rows.now (lending held.old names.old best.old trail.old) }
     ensures { Walked (W.rule n) n (rows_of words n rows.now) budget best.new result }
 {

@@ -2,7 +2,7 @@
 use mathlib.Core.Path.{refl, sym, subst}
 use mathlib.Core.Logic.{inl}
 use mathlib.Core.List.{List}
-use Rattle.std.specs.Prelude.{Option}
+use Rattle.std.specs.Prelude.{Result}
 use Prim.Native.Nat.{ℕ, zero, suc, ◌+◌, ◌*◌, ◌≤◌}
 use native.Mathlib.Omega.{arith}
 use native.Mathlib.Nat.{mul-le-mul_right}
@@ -31,6 +31,6 @@ module _ (rows : List ℕ) where
   }
 
   -- rows of one word are the list itself
-  pub walked_one : (R : Rule) (m : ℕ) (best : List ℕ) (r : Option State) → Walked R (length rows) (rows_of 1 (length rows) rows) m best r → Walked R
+  pub walked_one : (R : Rule) (m : ℕ) (best : List ℕ) (r : Result State State) → Walked R (length rows) (rows_of 1 (length rows) rows) m best r → Walked R
       (length rows) rows m best r
   walked_one R m best r w = subst (λ (l : List ℕ). Walked R (length rows) l m best r) (rows_one rows (length rows) refl) w

@@ -55,8 +55,8 @@ fn solved<W: Walk>(rows: &[u64], colours: &mut [u8], budget: u64) -> Result<Fewe
         1, n, rows, &mut held, &mut names, &mut best, &mut trail, budget,
     );
     match end {
-        Some(s) => Ok(told(rows, s, &best, colours)),
-        None => Err(Unsolved::Budget(budget)),
+        Ok(s) => Ok(told(rows, s, &best, colours)),
+        Err(_) => Err(Unsolved::Budget(budget)),
     }
 }
 

@@ -3,8 +3,10 @@
 -- trail. Assumes nothing.
 use mathlib.Core.Path.{◌≡◌, refl, sym, ap, ◌∙◌}
 use mathlib.Core.Option.{some}
+use Rattle.std.specs.Prelude.{Err}
 use Prim.Native.Nat.{ℕ, ◌+◌, ◌*◌}
 use native.Mathlib.Omega.{arith}
+use borrow.Author.Rules.{rules}
 use Rattle.graphs.specs.Graph.{pair}
 use Rattle.graphs.specs.Held.{view, choice_of}
 use Rattle.zykov.specs.Walk.{Rule, bounded}
@@ -22,10 +24,12 @@ rule n = bounded n mycielskian
 -- ---- enter
 
 pub enter-returns-in_err-entered : goal.enter-returns-in_err-entered
-enter-returns-in_err-entered t c = record {
-  comes = comes_at (comes_out (rule c.args.n) c.requires.ready (sym c.counted.ensures ∙ c.in_err-entered.was)) c.from_residual.ensures;
-  kept = kept_all c.args.words _ c.args.at c.requires.laid.form;
-}
+enter-returns-in_err-entered t c =
+    let e : c.from_residual.result ≡ Err c.in_err-entered.field-0.0 = search rules in
+    record {
+      comes = comes_at (comes_out (rule c.args.n) c.requires.ready (sym c.counted.ensures ∙ c.in_err-entered.was)) e;
+      kept = kept_all c.args.words _ c.args.at c.requires.laid.form;
+    }
 
 pub enter-reaches-requires : goal.enter-reaches-requires
 enter-reaches-requires t c =
@@ -125,7 +129,8 @@ pub split-returns-in_err-t : goal.split-returns-in_err-t
 split-returns-in_err-t t c =
     let i = c.loop-t.invariant in
     let k = round_back i.enters i.chosen c.merge_at-d.ensures c.without.result c.without.ensures rule c.enter-below.ensures c.unmerge_at.ensures in
-    record { comes = comes_at (i.rest _ _ (k.out c.in_err-t.was)) c.from_residual.ensures; left = left_kept _ _ _ _ _ i.left _ k.kept }
+    let e : c.from_residual.result ≡ Err c.in_err-t.field-0.0 = search rules in
+    record { comes = comes_at (i.rest _ _ (k.out _ c.in_err-t.was)) e; left = left_kept _ _ _ _ _ i.left _ k.kept }
 
 pub split-separate_at-requires : goal.split-separate_at-requires
 split-separate_at-requires t c =
@@ -139,9 +144,9 @@ split-returns-in_err-t-2 t c =
     let k = round_back i.enters i.chosen c.merge_at-d.ensures c.without.result c.without.ensures rule c.enter-below.ensures c.unmerge_at.ensures in
     let p = k.apart _ c.in_ok-t.was _ _ c.separate_at.ensures in
     let e = p.enters (c.args.at + (c.loop-t.more + 1)) (omega arith) in
+    let f : c.from_residual-in_err-t-2.result ≡ Err c.in_err-t-2.field-0.0 = search rules in
     record {
-      comes = comes_at (i.rest _ _ (p.rest _ _ (comes_out (rule c.args.n) e.ready (sym c.counted.ensures ∙ c.in_err-t-2.was))))
-          c.from_residual-in_err-t-2.ensures;
+      comes = comes_at (i.rest _ _ (p.rest _ _ (comes_out (rule c.args.n) e.ready (sym c.counted.ensures ∙ c.in_err-t-2.was)))) f;
       left = p.left _ c.args.at c.loop-t.more refl i.left;
     }
 

@@ -1,7 +1,7 @@
 use mathlib.Core.Path.{◌≡◌}
 use mathlib.Core.List.{List}
 use mathlib.Core.Option.{some}
-use Rattle.std.specs.Prelude.{Option}
+use Rattle.std.specs.Prelude.{Result}
 use Prim.Native.Nat.{ℕ, ◌+◌, ◌*◌}
 use Rattle.wide.specs.declared.Set.{Set}
 use Rattle.graphs.specs.Graph.{pair}
@@ -22,7 +22,7 @@ abbrev pub decreases-split : goal.decreases-split
 decreases-split l = living (node_in l.words l.n l.live (lending l.rows.now l.names.now l.best.now l.trail.now)) * 2
 
 -- from s, what is left of the walk below the node held in l, which is entered already and split at u and v, comes to best and r
-abbrev pub Onwards : ℕ → ℕ → Set → Lent → ℕ → ℕ → State → List ℕ → Option State → Type 0
+abbrev pub Onwards : ℕ → ℕ → Set → Lent → ℕ → ℕ → State → List ℕ → Result State State → Type 0
 Onwards words n live l u v s best r =
     Comes n s best r (onward (bounded n mycielskian) s.budget n (view (node_in words n live l)) u v (state_of n l.best s))
 
@@ -31,7 +31,7 @@ pub record Turn (words n : ℕ) (live : Set) (l₀ : Lent) (at a₀ b₀ : ℕ) 
   pub enters : Enters words n live l (at + more) t
   pub chosen : pair n (view (node_in words n live l)) ≡ some (a, b)
   pub lives : living (node_in words n live l) ≡ living (node_in words n live l₀)
-  pub rest : (best : List ℕ) (r : Option State) → Onwards words n live l a b t best r → Onwards words n live l₀ a₀ b₀ t₀ best r
+  pub rest : (best : List ℕ) (r : Result State State) → Onwards words n live l a b t best r → Onwards words n live l₀ a₀ b₀ t₀ best r
   pub left : Left words l₀ at more l
 
 abbrev pub invariant-split-loop-t : goal.invariant-split-loop-t

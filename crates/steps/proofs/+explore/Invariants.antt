@@ -1,6 +1,6 @@
 use mathlib.Core.Path.{◌≡◌}
 use mathlib.Core.List.{List}
-use Rattle.std.specs.Prelude.{Option}
+use Rattle.std.specs.Prelude.{Result}
 use Prim.Native.Nat.{ℕ, ◌+◌}
 use Rattle.wide.specs.declared.Set.{Set}
 use Rattle.graphs.specs.Held.{view}
@@ -17,14 +17,14 @@ abbrev pub decreases-explore : goal.decreases-explore
 decreases-explore l = living (node_in l.words l.n l.live (lending l.rows.now l.names.now l.best.now l.trail.now))
 
 -- from s the walk below the node held in l comes to best and r
-abbrev pub Below : ℕ → ℕ → Set → Lent → State → List ℕ → Option State → Type 0
+abbrev pub Below : ℕ → ℕ → Set → Lent → State → List ℕ → Result State State → Type 0
 Below words n live l s best r = Comes n s best r (within (plain n) s.budget (below n (view (node_in words n live l))) (state_of n l.best s))
 
 -- what holds where a turn begins: what is left of the walk is what was left at first, and what is changed is on the trail
 pub record Turn (words n : ℕ) (live : Set) (l₀ : Lent) (at : ℕ) (t₀ : State) (l : Lent) (t : State) (more : ℕ) : Type 0 where
   pub enters : Enters words n live l (at + more) t
   pub lives : living (node_in words n live l) ≡ living (node_in words n live l₀)
-  pub rest : (best : List ℕ) (r : Option State) → Below words n live l t best r → Below words n live l₀ t₀ best r
+  pub rest : (best : List ℕ) (r : Result State State) → Below words n live l t best r → Below words n live l₀ t₀ best r
   pub left : Left words l₀ at more l
 
 abbrev pub invariant-loop-entered : goal.invariant-loop-entered
