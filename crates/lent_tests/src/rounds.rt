@@ -1,5 +1,5 @@
 // The first round on the clique of a list, and what is told of the H that it makes: by the functions that fill lent rows and by those that return new ones.
-// What S(v), W and H are is gone through entry by entry, as document 01 says it, for every list of six entries. At four words `climb` alone runs these
+// What S(v), W and H are is gone through entry by entry, as document 01 says it, for every list of six entries on which one can be made. At four words `climb` alone runs these
 // bodies, in `trials_wide`.
 
 ghost use Rattle.std.specs.Prelude.{◌≡◌, length};

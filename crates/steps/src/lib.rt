@@ -17,7 +17,7 @@ use undo::{Undo, colours, merge, restore, separate, unmerge};
 use wide::{Set, below, size, without};
 
 // A walk on its way: the number of groups of the best division, the nodes entered, the complete graphs met, and the budget of nodes. A walk answers with
-// the state in which it ended, or, as an error, with the one in which it would have had to enter more nodes than that.
+// the state in which it ended, or, as an error, with the one in which it would have had to enter more nodes than that. A `Walk` tells none there.
 #[derive(Clone, Copy)]
 pub struct State {
     pub k: usize,
