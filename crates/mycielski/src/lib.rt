@@ -27,9 +27,9 @@ pub struct Lack<S> {
     pub twice: S,
 }
 
-// Rows that have no edge get every edge between two members of the clique c. This and its kin (`fill_..`) write into lent rows: those of four words take
-// 8 KiB, and `climb` keeps each in one place.
-fn fill_whole<S: Bits>(c: S, near: &mut [u64])
+// Rows that have no edge get every edge between two members of the clique c. This, `servings`, `first_servings` and `extended` write into rows that a caller
+// lends: those of four words take 8 KiB, and `climb` keeps each in one place. By each stands the same for one who has no rows to lend: its rows are new.
+pub fn whole<S: Bits>(c: S, near: &mut [u64])
     requires { near.old ≡ replicate S.lent zero }
     ensures near_len { length near.new ≡ S.lent }
     ensures near_after { part_of (sub (S.as_num c) (S.as_rows near.new)) ≡ every_edge (has (S.as_num c)) }
@@ -42,15 +42,15 @@ fn fill_whole<S: Bits>(c: S, near: &mut [u64])
     }
 }
 
-// The clique c, with every edge between two of its members.
-pub fn whole<S: Bits, const N: usize>(c: S) -> Sub<S, N>
+// The clique c, with every edge between two of its members, in new rows.
+pub fn whole_sub<S: Bits, const N: usize>(c: S) -> Sub<S, N>
     requires room { N ≡ S.lent }
     ensures vertices { result.set ≡ c }
     ensures near_len { length result.near ≡ S.lent }
     ensures edges { part_of (sub (S.as_num result.set) (S.as_rows result.near)) ≡ every_edge (has (S.as_num c)) }
 {
     let mut near = [0u64; N];
-    fill_whole(c, &mut near);
+    whole(c, &mut near);
     Sub { set: c, near: near }
 }
 
@@ -176,7 +176,7 @@ pub fn witnesses<S: Bits>(live: S, rows: &[u64], set: S, near: &[u64]) -> S
 }
 
 // `fit` gets S(v) of each v in H.
-fn fill_servings<S: Bits>(live: S, rows: &[u64], set: S, near: &[u64], fit: &mut [u64])
+pub fn servings<S: Bits>(live: S, rows: &[u64], set: S, near: &[u64], fit: &mut [u64])
     requires rows_len { (length rows.now ≡ S.lent) × (length near.now ≡ S.lent) }
     requires fit_len { length fit.old ≡ S.lent }
     requires among { Among (S.as_num live) (sub (S.as_num set) (S.as_rows near.now)) }
@@ -191,8 +191,13 @@ fn fill_servings<S: Bits>(live: S, rows: &[u64], set: S, near: &[u64], fit: &mut
     }
 }
 
-// S(v) of each v in H.
-pub fn servings<S: Bits, const N: usize>(live: S, rows: &[u64], set: S, near: &[u64]) -> [u64; N]
+// S(v) of each v in H, in new rows.
+pub fn servings_rows<S: Bits, const N: usize>(
+    live: S,
+    rows: &[u64],
+    set: S,
+    near: &[u64],
+) -> [u64; N]
     requires room { N ≡ S.lent }
     requires rows_len { (length rows.now ≡ S.lent) × (length near.now ≡ S.lent) }
     requires among { Among (S.as_num live) (sub (S.as_num set) (S.as_rows near.now)) }
@@ -200,12 +205,12 @@ pub fn servings<S: Bits, const N: usize>(live: S, rows: &[u64], set: S, near: &[
     ensures serves { EachAt S.cap (S.as_num live) (S.as_rows rows.now) (λ h. Serves h.n (view h) (sub (S.as_num set) (S.as_rows near.now)) (S.as_rows result)) }
 {
     let mut fit = [0u64; N];
-    fill_servings(live, rows, set, near, &mut fit);
+    servings(live, rows, set, near, &mut fit);
     fit
 }
 
 // `fit` gets the same where H is the set c with every edge, by who lacks one member of c, and who two.
-fn fill_first_servings<S: Bits>(live: S, rows: &[u64], c: S, fit: &mut [u64])
+pub fn first_servings<S: Bits>(live: S, rows: &[u64], c: S, fit: &mut [u64])
     requires rows_len { length rows.now ≡ S.lent }
     requires fit_len { length fit.old ≡ S.lent }
     requires within { Within (S.as_num c) (S.as_num live) }
@@ -222,8 +227,8 @@ fn fill_first_servings<S: Bits>(live: S, rows: &[u64], c: S, fit: &mut [u64])
     }
 }
 
-// S(v) of each v in H, where H is the set c with every edge.
-pub fn first_servings<S: Bits, const N: usize>(live: S, rows: &[u64], c: S) -> [u64; N]
+// The same, in new rows.
+pub fn first_servings_rows<S: Bits, const N: usize>(live: S, rows: &[u64], c: S) -> [u64; N]
     requires room { N ≡ S.lent }
     requires rows_len { length rows.now ≡ S.lent }
     requires within { Within (S.as_num c) (S.as_num live) }
@@ -231,13 +236,13 @@ pub fn first_servings<S: Bits, const N: usize>(live: S, rows: &[u64], c: S) -> [
     ensures serves { EachAt S.cap (S.as_num live) (S.as_rows rows.now) (λ h. ServesAll h.n (view h) (S.as_num c) (S.as_rows result)) }
 {
     let mut first = [0u64; N];
-    fill_first_servings(live, rows, c, &mut first);
+    first_servings(live, rows, c, &mut first);
     first
 }
 
 // The vertices of H after a round with w of W, where `fit` has S(v): for each v of the old H the lowest member of S(v) that is adjacent to w comes in,
 // tied to w and to v's old H-neighbours. Rows that are those of the old H get the edges.
-fn fill_extended<S: Bits>(
+pub fn extended<S: Bits>(
     live: S,
     rows: &[u64],
     set: S,
@@ -272,8 +277,8 @@ fn fill_extended<S: Bits>(
     next
 }
 
-// H after a round with w of W: for each v of the old H the lowest member of S(v) that is adjacent to w comes in, tied to w and to v's old H-neighbours.
-pub fn extended<S: Bits, const N: usize>(
+// H after a round with w of W, in new rows; S(v) is found on the way.
+pub fn extended_sub<S: Bits, const N: usize>(
     live: S,
     rows: &[u64],
     set: S,
@@ -292,8 +297,8 @@ pub fn extended<S: Bits, const N: usize>(
 {
     let mut near = [0u64; N];
     near.copy_from_slice(old);
-    let fit = servings::<S, N>(live, rows, set, old);
-    let next = fill_extended(live, rows, set, old, &mut near, w, &fit);
+    let fit = servings_rows::<S, N>(live, rows, set, old);
+    let next = extended(live, rows, set, old, &mut near, w, &fit);
     Sub {
         set: next,
         near: near,
@@ -314,11 +319,11 @@ pub fn climb<S: Bits, const N: usize>(live: S, rows: &[u64], c: S, ws: S, enough
     let all = live.size();
     let mut b = c.size() + 1;
     let mut near = [0u64; N];
-    fill_whole(c, &mut near);
+    whole(c, &mut near);
     let mut fit = [0u64; N];
-    fill_first_servings(live, rows, c, &mut fit);
+    first_servings(live, rows, c, &mut fit);
     let old = near;
-    let mut set = fill_extended(live, rows, c, &old, &mut near, ws.lowest(), &fit);
+    let mut set = extended(live, rows, c, &old, &mut near, ws.lowest(), &fit);
     while b < enough {
         if all <= set.size() {
             return b;
@@ -330,9 +335,9 @@ pub fn climb<S: Bits, const N: usize>(live: S, rows: &[u64], c: S, ws: S, enough
         if enough <= b + 1 {
             return b + 1;
         }
-        fill_servings(live, rows, set, &near, &mut fit);
+        servings(live, rows, set, &near, &mut fit);
         let old = near;
-        set = fill_extended(live, rows, set, &old, &mut near, ws.lowest(), &fit);
+        set = extended(live, rows, set, &old, &mut near, ws.lowest(), &fit);
         b = b + 1;
     }
     b

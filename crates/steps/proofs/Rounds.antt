@@ -18,7 +18,7 @@ use Rattle.undo.specs.declared.Undo.{Undo}
 use Rattle.zykov.specs.Tree.{below}
 use Rattle.zykov.specs.Walk.{Rule}
 use Rattle.zykov.specs.Budget.{within, onward}
-use Rattle.steps.specs.Going.{Lent, lending, node_in, state_of, Comes, Merging, Unmerging, Parting, Kept, Left, Enters, Entered}
+use Rattle.steps.specs.Going.{Lent, lending, node_in, state_of, ComesTelling, Merging, Unmerging, Parting, Kept, Left, Enters, EnteredTelling}
 use Rattle.steps.specs.declared.State.{State}
 use Rattle.steps.proofs.Splits.{living, open_pairs, at_pair, pair_bounds, merged_ready, merged_falls, onward_out, separated_ready, onward_on, separated_falls, separated_lives}
 use Rattle.steps.proofs.Undoing.{merged_becomes, merged_laid, kept_again, trail_room, parted_becomes, parted_laid, left_parted}
@@ -29,13 +29,13 @@ pub record Apart (R : ℕ → Rule) (words n : ℕ) (live : Set) (l : Lent) (top
   pub left : (l₀ : Lent) (at more : ℕ) → top ≡ at + more → Left words l₀ at more l → Left words l₀ at (more + 1) z
   pub fewer : open_pairs (node_in words n live z) < open_pairs (node_in words n live l)
   pub lives : living (node_in words n live z) ≡ living (node_in words n live l)
-  pub rest : (best : List ℕ) (r : Result State State) → Comes n t' best r (within (R n) t'.budget (below n (view (node_in words n live z))) (state_of n z.best t'))
-      → Comes n t best r (onward (R n) t.budget n (view (node_in words n live l)) a b (state_of n l.best t))
+  pub rest : (best : List ℕ) (r : Result State State) → ComesTelling n t' best r (within (R n) t'.budget (below n (view (node_in words n live z))) (state_of n z.best t'))
+      → ComesTelling n t best r (onward (R n) t.budget n (view (node_in words n live l)) a b (state_of n l.best t))
 
 -- the walk below the merged graph came back to t', and the pair is merged back, in y
 pub record Back (R : ℕ → Rule) (words n : ℕ) (live : Set) (l : Lent) (top a b : ℕ) (t : State) (y : Lent) (r : Result State State) : Type 0 where
   pub kept : Kept words l top y
-  pub out : (t' : State) → r ≡ Err t' → Comes n t y.best (Err t') (onward (R n) t.budget n (view (node_in words n live l)) a b (state_of n l.best t))
+  pub out : (t' : State) → r ≡ Err t' → ComesTelling n t y.best (Err t') (onward (R n) t.budget n (view (node_in words n live l)) a b (state_of n l.best t))
   pub room : (a < 64 * words) × (b < 64 * words) × (top < length y.trail)
   pub apart : (t' : State) → r ≡ Ok t' → (rows trail : List ℕ) → Parting words y.rows y.trail top a b rows trail
       → Apart R words n live l top a b t (lending rows y.names y.best trail) t'
@@ -73,7 +73,7 @@ module _ {words n : ℕ} {live : Set} {l : Lent} {top a b : ℕ} {t : State} (e 
     pub round_falls : suc (living (node_in words n fewer mixed)) ≡ living g
     round_falls = merged_falls (64 * words) g a b e.ready.held c (node_in words n fewer mixed) becomes
 
-    module _ (R : ℕ → Rule) {x : Lent} {r : Result State State} (en : Entered words (R n) n fewer mixed top t x r) where
+    module _ (R : ℕ → Rule) {x : Lent} {r : Result State State} (en : EnteredTelling words (R n) n fewer mixed top t x r) where
       -- to merge back
       pub round_unmerges : (length x.names ≡ 64 * words) × (a < 64 * words) × (b < 64 * words)
       round_unmerges = (ap length en.kept.stays.names ∙ round_enters.laid.named, round_pair.0, round_pair.1)
@@ -91,8 +91,8 @@ module _ {words n : ℕ} {live : Set} {l : Lent} {top a b : ℕ} {t : State} (e 
         abbrev z : List ℕ → List ℕ → Lent
         z rows trail = lending rows names'' x.best trail
 
-        came : (t' : Result State State) → r ≡ t' → Comes n t x.best t' (within (R n) t.budget (below n (view (node_in words n fewer mixed))) (state_of n l.best t))
-        came t' o = subst (λ (s : Result State State). Comes n t x.best s (within (R n) t.budget (below n (view (node_in words n fewer mixed))) (state_of n l.best t))) o en.comes
+        came : (t' : Result State State) → r ≡ t' → ComesTelling n t x.best t' (within (R n) t.budget (below n (view (node_in words n fewer mixed))) (state_of n l.best t))
+        came t' o = subst (λ (s : Result State State). ComesTelling n t x.best s (within (R n) t.budget (below n (view (node_in words n fewer mixed))) (state_of n l.best t))) o en.comes
 
         apart : (t' : State) → r ≡ Ok t' → (rows trail : List ℕ) → Parting words rows'' x.trail top a b rows trail
             → Apart R words n live l top a b t (lending rows names'' x.best trail) t'

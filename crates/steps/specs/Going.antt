@@ -5,13 +5,15 @@
 --   node_in words n live l : the node that is held there: rows are read by their words, names are a forest
 --   state_of n best s     : the described walk's state that s and the lent best hold, for n entries
 --   outcome n best r      : that state for a walk that ended in r, or none where the budget had no more
+--   outcome_telling n best r : the same for a walk that tells the state it stands at where the budget has no more
 --   stopped_at r          : the code's state in r, on either side
 --   Fair n best s         : s's number of groups is that of the best division, and no more complete graphs are met than nodes entered
 --   begun n m             : before the first node, with the budget m
 --   counted s             : s with one node more, or s as an error where the budget has no more
 --   Ready cap h best s    : the walk may enter h from s
 --   Goes n s best t       : t is fair with this best, and has the budget of s
---   Comes n s best r o    : from s the walk came to r and to this best, which hold the described outcome o; r's state is fair there, out of budget too
+--   Comes n s best r o    : from s the walk came to r and to this best, which hold the described outcome o; r is none where the budget has no more
+--   ComesTelling n s best r o : the same for a walk that tells its state; that is fair there, out of budget too
 --   Found f h .. best r   : h is complete, and r with this best is what f makes of it
 --   Finds f n live names .. : so it is of every node with this live set and these names. So a function that is lent names alone says what they stand for
 --   Merging, Unmerging    : v is merged into u, in rows and names; and that is undone
@@ -21,13 +23,15 @@
 --   Kept words l at l'    : afterwards, in l', rows and names are as they were, and so is the trail below at
 --   Left words l at k l'  : so they are but for the rows, which are as they were without the k pairs of the trail from at on
 --   Enters, Entered R     : the walk may enter the node held in l; by the rule R it came back from there
+--   EnteredTelling R      : so does a walk that tells its state
 --   Splits, Onward R      : the same where the node is entered already and is split at u and v
 --   Lends, Lays           : a list's rows, and room for a walk over them, names of zeros; the rows stand there and every entry is alone
 --   Walked R n rows m ..  : by the rule R the walk over this list with the budget m came to best and r
+--   WalkedTelling R n rows m .. : so did one that tells its state
 --
 -- Assumes nothing.
-use Rattle.std.specs.Prelude.{◌≡◌, cond, List, ◌++◌, ℕ, zero, ◌+◌, ◌*◌, ◌≤◌, ◌<◌, ltb, take, drop, length, get_or, set, replicate, Result, Ok, Err}
-use Rattle.std.proofs.Math.Option.{Option, none, some}
+use Rattle.std.specs.Prelude.{◌≡◌, cond, List, ◌++◌, ℕ, zero, ◌+◌, ◌*◌, ◌≤◌, ◌<◌, ltb, take, drop, length, get_or, set, replicate, Option, Some, None, IfSome, Result, Ok, Err}
+use Rattle.std.proofs.Math.Option.{Option as MathOption, none, some}
 use Rattle.wide.specs.Words.{num, rows_of}
 use Rattle.wide.specs.Form.{Form, held}
 use Rattle.wide.specs.declared.Set.{Set}
@@ -61,9 +65,13 @@ node_in words n live l = node n (num live) (held words l.rows) (called l.names)
 abbrev pub state_of : ℕ → List ℕ → State → Described
 state_of n best s = record { best = take n best; nodes = s.nodes; leaves = s.leaves }
 
-abbrev pub outcome : ℕ → List ℕ → Result State State → Option Described
-outcome n best (Ok s) = some (state_of n best s)
-outcome n best (Err s) = none
+abbrev pub outcome : ℕ → List ℕ → Option State → MathOption Described
+outcome n best (Some s) = some (state_of n best s)
+outcome n best None = none
+
+abbrev pub outcome_telling : ℕ → List ℕ → Result State State → MathOption Described
+outcome_telling n best (Ok s) = some (state_of n best s)
+outcome_telling n best (Err s) = none
 
 abbrev pub stopped_at : Result State State → State
 stopped_at (Ok s) = s
@@ -88,8 +96,12 @@ pub record Goes (n : ℕ) (s : State) (best : List ℕ) (t : State) : Type 0 whe
   pub fair : Fair n best t
   pub budget : t.budget ≡ s.budget
 
-pub record Comes (n : ℕ) (s : State) (best : List ℕ) (r : Result State State) (o : Option Described) : Type 0 where
+pub record Comes (n : ℕ) (s : State) (best : List ℕ) (r : Option State) (o : MathOption Described) : Type 0 where
   pub is : outcome n best r ≡ o
+  pub goes : IfSome r (Goes n s best)
+
+pub record ComesTelling (n : ℕ) (s : State) (best : List ℕ) (r : Result State State) (o : MathOption Described) : Type 0 where
+  pub is : outcome_telling n best r ≡ o
   pub goes : Goes n s best (stopped_at r)
 
 pub record Found (take-up : Graph → Described → Described) (h : Node) (best : List ℕ) (s : State) (best' : List ℕ) (r : State) : Type 0 where
@@ -151,8 +163,12 @@ module _ (words : ℕ) where
     pub ready : Ready (64 * words) (node_in words n live l) l.best s
     pub laid : Laid n live l at
 
-  pub record Entered (R : Rule) (n : ℕ) (live : Set) (l : Lent) (at : ℕ) (s : State) (l' : Lent) (r : Result State State) : Type 0 where
+  pub record Entered (R : Rule) (n : ℕ) (live : Set) (l : Lent) (at : ℕ) (s : State) (l' : Lent) (r : Option State) : Type 0 where
     pub comes : Comes n s l'.best r (within R s.budget (below n (view (node_in words n live l))) (state_of n l.best s))
+    pub kept : Kept l at l'
+
+  pub record EnteredTelling (R : Rule) (n : ℕ) (live : Set) (l : Lent) (at : ℕ) (s : State) (l' : Lent) (r : Result State State) : Type 0 where
+    pub comes : ComesTelling n s l'.best r (within R s.budget (below n (view (node_in words n live l))) (state_of n l.best s))
     pub kept : Kept l at l'
 
   pub record Splits (n : ℕ) (live : Set) (l : Lent) (at more u v : ℕ) (s : State) : Type 0 where
@@ -161,7 +177,7 @@ module _ (words : ℕ) where
     pub chosen : pair n (view (node_in words n live l)) ≡ some (u, v)
 
   pub record Onward (R : Rule) (n : ℕ) (live : Set) (l : Lent) (at u v : ℕ) (s : State) (l' : Lent) (r : Result State State) (more : ℕ) : Type 0 where
-    pub comes : Comes n s l'.best r (onward R s.budget n (view (node_in words n live l)) u v (state_of n l.best s))
+    pub comes : ComesTelling n s l'.best r (onward R s.budget n (view (node_in words n live l)) u v (state_of n l.best s))
     pub left : Left l at more l'
 
   -- ---- a whole list
@@ -179,5 +195,8 @@ pub record Lays (n : ℕ) (rows held names best held' names' best' : List ℕ) :
   pub names_are : names' ≡ alone n ++ drop n names
   pub best_is : best' ≡ alone n ++ drop n best
 
-abbrev pub Walked : Rule → ℕ → List ℕ → ℕ → List ℕ → Result State State → Type 0
+abbrev pub Walked : Rule → ℕ → List ℕ → ℕ → List ℕ → Option State → Type 0
 Walked R n rows m best r = Comes n (begun n m) best r (within R m (zykov n (matrix rows)) (start n))
+
+abbrev pub WalkedTelling : Rule → ℕ → List ℕ → ℕ → List ℕ → Result State State → Type 0
+WalkedTelling R n rows m best r = ComesTelling n (begun n m) best r (within R m (zykov n (matrix rows)) (start n))

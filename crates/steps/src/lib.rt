@@ -10,14 +10,14 @@ ghost use Rattle.undo.specs.Forest.{Forest};
 ghost use Rattle.clashes.specs.Divisions.{alone as alone_of};
 ghost use Rattle.bounds.specs.Names.{mycielskian};
 ghost use Rattle.zykov.specs.Walk.{Rule, become, compare, bounded, plain};
-ghost use Rattle.steps.specs.Going.{lending, begun, counted as counted_of, Finds, Merging, Unmerging, Parting, Enters, Entered, Splits, Onward, Lends, Lays, Walked};
+ghost use Rattle.steps.specs.Going.{lending, begun, counted as counted_of, Finds, Merging, Unmerging, Parting, Enters, Entered, EnteredTelling, Splits, Onward, Lends, Lays, Walked, WalkedTelling};
 
 use seam::{choose_among, reaches};
 use undo::{Undo, colours, merge, restore, separate, unmerge};
 use wide::{Set, below, size, without};
 
 // A walk on its way: the number of groups of the best division, the nodes entered, the complete graphs met, and the budget of nodes. A walk answers with
-// the state in which it ended, or, as an error, with the one in which it would have had to enter more nodes than that.
+// the state in which it ended, or, as an error, with the one in which it would have had to enter more nodes than that. A `Walk` tells none there.
 #[derive(Clone, Copy)]
 pub struct State {
     pub k: usize,
@@ -107,7 +107,7 @@ fn enter(
     s: State,
 ) -> Result<State, State>
     requires { Enters words n live (lending rows.old names.old best.old trail.old) at s }
-    ensures { Entered words (bounded n mycielskian) n live (lending rows.old names.old best.old trail.old) at s (lending rows.new names.new best.new trail.new) result }
+    ensures { EnteredTelling words (bounded n mycielskian) n live (lending rows.old names.old best.old trail.old) at s (lending rows.new names.new best.new trail.new) result }
 {
     let entered = counted(s)?;
     if reaches(words, live, rows, entered.k) {
@@ -212,7 +212,7 @@ fn explore(
     s: State,
 ) -> Result<State, State>
     requires { Enters words n live (lending rows.old names.old best.old trail.old) at s }
-    ensures { Entered words (plain n) n live (lending rows.old names.old best.old trail.old) at s (lending rows.new names.new best.new trail.new) result }
+    ensures { EnteredTelling words (plain n) n live (lending rows.old names.old best.old trail.old) at s (lending rows.new names.new best.new trail.new) result }
 {
     let mut t = s;
     let mut more: usize = 0;
@@ -275,8 +275,28 @@ fn lay(n: usize, rows: &[u64], held: &mut [u64], names: &mut [u8], best: &mut [u
     alone(n, best);
 }
 
-// One of the two walks.
+// One of the two walks. Where the budget has no more it tells nothing.
 pub trait Walk {
+    ghost rule: { ℕ → Rule };
+
+    // The node of these parts is entered, and walked by the rule.
+    fn enter(
+        words: usize,
+        n: usize,
+        live: Set,
+        rows: &mut [u64],
+        names: &mut [u8],
+        best: &mut [u8],
+        trail: &mut [u16],
+        at: usize,
+        s: State,
+    ) -> Option<State>
+        requires { Enters words n live (lending rows.old names.old best.old trail.old) at s }
+        ensures { Entered words (rule n) n live (lending rows.old names.old best.old trail.old) at s (lending rows.new names.new best.new trail.new) result };
+}
+
+// One of the two walks. Where the budget has no more it tells the state that it stands at.
+pub trait TellingWalk {
     ghost rule: { ℕ → Rule };
 
     // The node of these parts is entered, and walked by the rule.
@@ -292,13 +312,31 @@ pub trait Walk {
         s: State,
     ) -> Result<State, State>
         requires { Enters words n live (lending rows.old names.old best.old trail.old) at s }
-        ensures { Entered words (rule n) n live (lending rows.old names.old best.old trail.old) at s (lending rows.new names.new best.new trail.new) result };
+        ensures { EnteredTelling words (rule n) n live (lending rows.old names.old best.old trail.old) at s (lending rows.new names.new best.new trail.new) result };
 }
 
 // The walk by the Mycielskian bound.
 pub struct Bounded;
 
 impl Walk for Bounded {
+    ghost rule = { λ n. bounded n mycielskian };
+
+    fn enter(
+        words: usize,
+        n: usize,
+        live: Set,
+        rows: &mut [u64],
+        names: &mut [u8],
+        best: &mut [u8],
+        trail: &mut [u16],
+        at: usize,
+        s: State,
+    ) -> Option<State> {
+        enter(words, n, live, rows, names, best, trail, at, s).ok()
+    }
+}
+
+impl TellingWalk for Bounded {
     ghost rule = { λ n. bounded n mycielskian };
 
     fn enter(
@@ -332,6 +370,24 @@ impl Walk for Plain {
         trail: &mut [u16],
         at: usize,
         s: State,
+    ) -> Option<State> {
+        explore(words, n, live, rows, names, best, trail, at, s).ok()
+    }
+}
+
+impl TellingWalk for Plain {
+    ghost rule = { plain };
+
+    fn enter(
+        words: usize,
+        n: usize,
+        live: Set,
+        rows: &mut [u64],
+        names: &mut [u8],
+        best: &mut [u8],
+        trail: &mut [u16],
+        at: usize,
+        s: State,
     ) -> Result<State, State> {
         explore(words, n, live, rows, names, best, trail, at, s)
     }
@@ -347,9 +403,28 @@ pub fn walk_list<W: Walk>(
     best: &mut [u8],
     trail: &mut [u16],
     budget: u64,
-) -> Result<State, State>
+) -> Option<State>
     requires { Lends words n rows.now (lending held.old names.old best.old trail.old) }
     ensures { Walked (W.rule n) n (rows_of words n rows.now) budget best.new result }
+{
+    lay(n, rows, held, names, best);
+    let first = start(n, budget);
+    W::enter(words, n, below(n), held, names, best, trail, 0, first)
+}
+
+// The same by a walk that tells the state it stands at where the budget has no more.
+pub fn walk_list_telling<W: TellingWalk>(
+    words: usize,
+    n: usize,
+    rows: &[u64],
+    held: &mut [u64],
+    names: &mut [u8],
+    best: &mut [u8],
+    trail: &mut [u16],
+    budget: u64,
+) -> Result<State, State>
+    requires { Lends words n rows.now (lending held.old names.old best.old trail.old) }
+    ensures { WalkedTelling (W.rule n) n (rows_of words n rows.now) budget best.new result }
 {
     lay(n, rows, held, names, best);
     W::enter(

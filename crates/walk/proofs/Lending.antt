@@ -11,7 +11,7 @@ use Rattle.wide.specs.Words.{rows_of}
 use Rattle.wide.proofs.WideLaws.{rows_one}
 use Rattle.clashes.specs.Matrix.{Sound}
 use Rattle.zykov.specs.Walk.{Rule}
-use Rattle.steps.specs.Going.{lending, Lends, Walked}
+use Rattle.steps.specs.Going.{lending, Lends, WalkedTelling}
 use Rattle.steps.specs.declared.State.{State}
 
 -- n (n - 1) / 2 is at most 2,016
@@ -31,6 +31,6 @@ module _ (rows : List ℕ) where
   }
 
   -- rows of one word are the list itself
-  pub walked_one : (R : Rule) (m : ℕ) (best : List ℕ) (r : Result State State) → Walked R (length rows) (rows_of 1 (length rows) rows) m best r → Walked R
+  pub walked_one : (R : Rule) (m : ℕ) (best : List ℕ) (r : Result State State) → WalkedTelling R (length rows) (rows_of 1 (length rows) rows) m best r → WalkedTelling R
       (length rows) rows m best r
-  walked_one R m best r w = subst (λ (l : List ℕ). Walked R (length rows) l m best r) (rows_one rows (length rows) refl) w
+  walked_one R m best r w = subst (λ (l : List ℕ). WalkedTelling R (length rows) l m best r) (rows_one rows (length rows) refl) w

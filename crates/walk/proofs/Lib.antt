@@ -3,4 +3,4 @@ pub mod PromiseLaws
 pub mod Meets
 pub mod Answers
 pub mod Demands
-mod Lending
+pub mod Lending

@@ -12,7 +12,7 @@ use bounds::clique_of;
 use clashes::validity;
 pub use found::Fewest;
 use refusals::Unsolved;
-use steps::{Bounded, Plain, State, Walk, walk_list};
+use steps::{Bounded, Plain, State, TellingWalk, walk_list_telling};
 
 // May the walk start? Refusals 1 to 5.
 fn admitted(rows: &[u64], room: usize) -> Result<(), Unsolved>
@@ -42,7 +42,7 @@ fn told(rows: &[u64], s: State, best: &[u8], colours: &mut [u8]) -> Fewest
 }
 
 // The answer of a walk over a lent clash list, and each entry's sitting in the lent bytes.
-fn solved<W: Walk>(rows: &[u64], colours: &mut [u8], budget: u64) -> Result<Fewest, Unsolved>
+fn solved<W: TellingWalk>(rows: &[u64], colours: &mut [u8], budget: u64) -> Result<Fewest, Unsolved>
     ensures { SolvedBy W.rule rows.now colours.old budget result colours.new }
 {
     admitted(rows, colours.len())?;
@@ -51,7 +51,7 @@ fn solved<W: Walk>(rows: &[u64], colours: &mut [u8], budget: u64) -> Result<Fewe
     let mut names: [u8; 64] = [0; 64];
     let mut best: [u8; 64] = [0; 64];
     let mut trail: [u16; 2016] = [0; 2016]; // as many pairs as 64 entries have
-    let end = walk_list::<W>(
+    let end = walk_list_telling::<W>(
         1, n, rows, &mut held, &mut names, &mut best, &mut trail, budget,
     );
     match end {

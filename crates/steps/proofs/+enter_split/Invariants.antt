@@ -9,7 +9,7 @@ use Rattle.graphs.specs.Held.{view}
 use Rattle.zykov.specs.Walk.{bounded}
 use Rattle.zykov.specs.Budget.{onward}
 use Rattle.bounds.specs.Names.{mycielskian}
-use Rattle.steps.specs.Going.{Lent, lending, node_in, state_of, Comes, Left, Enters}
+use Rattle.steps.specs.Going.{Lent, lending, node_in, state_of, ComesTelling, Left, Enters}
 use Rattle.steps.specs.declared.State.{State}
 use Rattle.steps.proofs.Splits.{living, open_pairs}
 use Rattle.steps.proofs.+enter_split.Given as goal
@@ -24,7 +24,7 @@ decreases-split l = living (node_in l.words l.n l.live (lending l.rows.now l.nam
 -- from s, what is left of the walk below the node held in l, which is entered already and split at u and v, comes to best and r
 abbrev pub Onwards : ℕ → ℕ → Set → Lent → ℕ → ℕ → State → List ℕ → Result State State → Type 0
 Onwards words n live l u v s best r =
-    Comes n s best r (onward (bounded n mycielskian) s.budget n (view (node_in words n live l)) u v (state_of n l.best s))
+    ComesTelling n s best r (onward (bounded n mycielskian) s.budget n (view (node_in words n live l)) u v (state_of n l.best s))
 
 -- what holds where a turn begins: what is left of the walk is what was left at first, and what is changed is on the trail
 pub record Turn (words n : ℕ) (live : Set) (l₀ : Lent) (at a₀ b₀ : ℕ) (t₀ : State) (l : Lent) (a b : ℕ) (t : State) (more : ℕ) : Type 0 where

@@ -7,7 +7,7 @@ use Rattle.graphs.specs.Held.{view}
 use Rattle.zykov.specs.Tree.{below}
 use Rattle.zykov.specs.Walk.{plain}
 use Rattle.zykov.specs.Budget.{within}
-use Rattle.steps.specs.Going.{Lent, lending, node_in, state_of, Comes, Left, Enters}
+use Rattle.steps.specs.Going.{Lent, lending, node_in, state_of, ComesTelling, Left, Enters}
 use Rattle.steps.specs.declared.State.{State}
 use Rattle.steps.proofs.Splits.{living, open_pairs}
 use Rattle.steps.proofs.+explore.Given as goal
@@ -18,7 +18,7 @@ decreases-explore l = living (node_in l.words l.n l.live (lending l.rows.now l.n
 
 -- from s the walk below the node held in l comes to best and r
 abbrev pub Below : ℕ → ℕ → Set → Lent → State → List ℕ → Result State State → Type 0
-Below words n live l s best r = Comes n s best r (within (plain n) s.budget (below n (view (node_in words n live l))) (state_of n l.best s))
+Below words n live l s best r = ComesTelling n s best r (within (plain n) s.budget (below n (view (node_in words n live l))) (state_of n l.best s))
 
 -- what holds where a turn begins: what is left of the walk is what was left at first, and what is changed is on the trail
 pub record Turn (words n : ℕ) (live : Set) (l₀ : Lent) (at : ℕ) (t₀ : State) (l : Lent) (t : State) (more : ℕ) : Type 0 where

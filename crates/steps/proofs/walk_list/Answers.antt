@@ -10,11 +10,11 @@ enter-requires g c =
     let a = c.args in
     let y = c.lay.new in
     first_enters a.words a.n a.rows.now _ c.requires y.held y.names y.best c.lay.ensures c.below.result c.below.ensures
-    a.budget c.start.result c.start.ensures
+    a.budget c.start-first.result c.start-first.ensures
 
 pub returns : goal.returns
 returns g c =
     let a = c.args in
     let y = c.lay.new in
     walked_is a.words a.n a.rows.now _ c.requires y.held y.names y.best c.lay.ensures c.below.result c.below.ensures
-    (g.W.Walk.rule c.args.n) a.budget c.start.result c.start.ensures _ c.enter.result c.enter.ensures
+    (g.W.Walk.rule c.args.n) a.budget c.start-first.result c.start-first.ensures _ c.enter.result c.enter.ensures

@@ -1,4 +1,4 @@
--- `mycielski::fill_extended` meets its contract. The loop's invariant: what is done of H has its chosen members, with their edges. The measure: what is
+-- `mycielski::extended` meets its contract. The loop's invariant: what is done of H has its chosen members, with their edges. The measure: what is
 -- left. Assumes nothing.
 use mathlib.Core.Path.{sym, ap, ◌∙◌, subst}
 use mathlib.Core.List.{List}
@@ -10,7 +10,7 @@ use Rattle.graphs.specs.Held.{holding}
 use Rattle.mycielski.specs.Words.{sub}
 use Rattle.mycielski.proofs.DoneLaws.{within_again}
 use Rattle.mycielski.proofs.RoundLoops.{offered, Extending, extending_start, extending_again, extending_end}
-use Rattle.mycielski.proofs.fill_extended.Goals as goal
+use Rattle.mycielski.proofs.extended.Goals as goal
 
 pub members-init : goal.members-init
 members-init g c =

@@ -8,7 +8,7 @@ use Rattle.cliques.specs.Growth.{Within}
 use Rattle.mycielski.specs.Rounds.{of_w_lem}
 use Rattle.mycielski.specs.Words.{sub, part_of, Among}
 use Rattle.mycielski.proofs.RoundLoops.{Extending}
-use Rattle.mycielski.proofs.fill_extended.Given as goal
+use Rattle.mycielski.proofs.extended.Given as goal
 
 abbrev pub invariant-members : goal.invariant-members
 invariant-members g l =

@@ -5,7 +5,7 @@ use Rattle.graphs.specs.Held.{view, HeldAt, holding}
 use Rattle.graphs.specs.declared.Node.{Node}
 use Rattle.mycielski.specs.Rounds.{near_all}
 use Rattle.mycielski.proofs.FitLoops.{Fitting}
-use Rattle.mycielski.proofs.fill_servings.Given as goal
+use Rattle.mycielski.proofs.servings.Given as goal
 
 abbrev pub invariant-loop-live : goal.invariant-loop-live
 invariant-loop-live g l =

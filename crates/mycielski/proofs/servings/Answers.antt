@@ -1,4 +1,4 @@
--- `mycielski::fill_servings` meets its contract. The loop's invariant: S(v) is stored for each v that is done. The measure: what is left. Assumes nothing.
+-- `mycielski::servings` meets its contract. The loop's invariant: S(v) is stored for each v that is done. The measure: what is left. Assumes nothing.
 use mathlib.Core.Path.{◌≡◌, sym, ap, ◌∙◌, subst}
 use mathlib.Core.Bool.{Bool}
 use Prim.Native.Nat.{ℕ}
@@ -8,7 +8,7 @@ use Rattle.graphs.specs.Held.{view, holding}
 use Rattle.graphs.proofs.LoopLaws.{left_falls}
 use Rattle.mycielski.specs.Rounds.{near_all}
 use Rattle.mycielski.proofs.FitLoops.{Fitting, fitting_start, fitting_again, fitting_end}
-use Rattle.mycielski.proofs.fill_servings.Goals as goal
+use Rattle.mycielski.proofs.servings.Goals as goal
 
 pub loop-live-init : goal.loop-live-init
 loop-live-init g c = (c.requires.fit_len, λ m k. fitting_start _ _ _ _ (g.met.S.Bits.rows_long c.args.fit.now c.requires.fit_len))

@@ -1,10 +1,10 @@
--- `mycielski::fill_whole` meets its contract. The loop's invariant: the edges of what is done are laid. The measure: what is left. Assumes nothing.
+-- `mycielski::whole` meets its contract. The loop's invariant: the edges of what is done are laid. The measure: what is left. Assumes nothing.
 use mathlib.Core.Path.{sym, ap, ◌∙◌, subst}
 use Prim.Native.Nat.{zero}
 use lib.ListN.{length, length-replicate}
 use Rattle.graphs.proofs.LoopLaws.{left_falls}
 use Rattle.mycielski.proofs.EdgeLoops.{Joining, joining_start, joining_again, joining_end}
-use Rattle.mycielski.proofs.fill_whole.Goals as goal
+use Rattle.mycielski.proofs.whole.Goals as goal
 
 pub loop-c-init : goal.loop-c-init
 loop-c-init g c =

@@ -1,4 +1,4 @@
--- `mycielski::fill_first_servings` meets its contract. The loop's invariant: S(v) is stored for each v that is done. The measure: what is left. Assumes
+-- `mycielski::first_servings` meets its contract. The loop's invariant: S(v) is stored for each v that is done. The measure: what is left. Assumes
 -- nothing.
 use mathlib.Core.Path.{sym, subst}
 use mathlib.Core.Bool.{Bool}
@@ -10,7 +10,7 @@ use Rattle.mycielski.specs.Rounds.{every_edge, near_all}
 use Rattle.mycielski.proofs.DoneLaws.{within_again}
 use Rattle.mycielski.proofs.FirstLoops.{first_serving}
 use Rattle.mycielski.proofs.FitLoops.{Fitting, fitting_start, fitting_again, fitting_end}
-use Rattle.mycielski.proofs.fill_first_servings.Goals as goal
+use Rattle.mycielski.proofs.first_servings.Goals as goal
 
 pub loop-lack-init : goal.loop-lack-init
 loop-lack-init g c = (λ x t. t, c.requires.fit_len, λ m k. fitting_start _ _ _ _ (g.met.S.Bits.rows_long c.args.fit.now c.requires.fit_len))

@@ -6,7 +6,7 @@ use Rattle.graphs.specs.declared.Node.{Node}
 use Rattle.cliques.specs.Growth.{Within}
 use Rattle.mycielski.specs.Rounds.{every_edge, near_all}
 use Rattle.mycielski.proofs.FitLoops.{Fitting}
-use Rattle.mycielski.proofs.fill_first_servings.Given as goal
+use Rattle.mycielski.proofs.first_servings.Given as goal
 
 abbrev pub invariant-loop-lack : goal.invariant-loop-lack
 invariant-loop-lack g l =
