@@ -4,6 +4,7 @@
 
 #[cfg(test)]
 mod lists;
+mod own;
 #[cfg(test)]
 mod rounds;
 #[cfg(test)]

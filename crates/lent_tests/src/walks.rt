@@ -1,33 +1,10 @@
 // The walk that tells nothing where the budget has no more, by each rule and by a walk of this crate's own.
 
-ghost use Rattle.zykov.specs.Walk.{plain};
-
 use crate::lists::{OF_FIVE, clash, rows_of};
+use crate::own::Own;
 use clashes::validity;
 use refusals::Invalid;
 use steps::{Bounded, Plain, State, Walk, walk_list};
-use wide::Set;
-
-// A walk as another crate may have its own: the plain one.
-struct Own;
-
-impl Walk for Own {
-    ghost rule = { plain };
-
-    fn enter(
-        words: usize,
-        n: usize,
-        live: Set,
-        rows: &mut [u64],
-        names: &mut [u8],
-        best: &mut [u8],
-        trail: &mut [u16],
-        at: usize,
-        s: State,
-    ) -> Option<State> {
-        Plain::enter(words, n, live, rows, names, best, trail, at, s)
-    }
-}
 
 // What the walk by W over these rows comes to.
 fn walked<W: Walk>(rows: &[u64], budget: u64) -> Result<Option<State>, Invalid> {
